@@ -1,0 +1,133 @@
+-- Document 01's entries 1 to 9, as one group: each is true of the rules themselves, and the checker computes it.
+-- Assumes nothing.
+use Prim.Native.Nat.{ℕ, _+_, _*_}
+use mathlib.Core.Path.{_≡_, refl}
+use mathlib.Core.List.{List, [], _∷_, _++_}
+use lib.ListN.{take, drop, replicate}
+use Rattle.machine.specs.Bytes.{bytes}
+use Rattle.machine.specs.Tape.{tapeOf, check, covered, blockCheck, join}
+use Rattle.machine.specs.Answers.{Answer, freshAnswer, freshImage, stepAnswer, stepImage, runAnswer, runImage, runLedger, stoppedAnswer, writeAnswer, readAnswer}
+use Rattle.machine.proofs.Computed.{rules}
+
+abbrev done : List ℕ → Answer
+done values = record { number = 0; values = values }
+
+abbrev refused : ℕ → ℕ → Answer
+refused number place = record { number = number; values = place ∷ [] }
+
+-- an event p.c with message m, as bytes
+abbrev event : ℕ → ℕ → ℕ → List ℕ
+event p c m = p ∷ c ∷ 0 ∷ 0 ∷ bytes 4 m
+
+-- n copies of an event
+abbrev copies : ℕ → List ℕ → List ℕ
+copies n e = join (replicate n e)
+
+unfoldable pub firstTen : List ℕ
+firstTen =
+    join
+    (event 1 0 7 ∷ event 1 3 0 ∷ event 1 7 0 ∷ event 0 6 0 ∷ event 0 7 0
+    ∷ event 1 4 0 ∷ event 1 7 0 ∷ event 1 2 0 ∷ event 1 3 0 ∷ event 1 7 0 ∷ [])
+
+unfoldable pub lastTen : List ℕ
+lastTen =
+    join
+    (event 0 1 0 ∷ event 0 3 0 ∷ event 0 7 0 ∷ event 1 5 0 ∷ event 1 7 0
+    ∷ event 0 4 0 ∷ event 0 7 0 ∷ event 0 2 0 ∷ event 0 3 0 ∷ event 0 7 0 ∷ [])
+
+-- the fresh ring of two processes with home 0, in a buffer whose bytes were all 255
+unfoldable pub ring : List ℕ
+ring = freshImage 2 0 (replicate 32 255)
+
+-- a ledger with a byte to spare
+unfoldable pub ledger : List ℕ
+ledger = replicate 49 255
+
+-- the ring after the first seven events: process 1 may fill
+unfoldable pub mayFill : List ℕ
+mayFill = runImage ring (tapeOf (take 56 firstTen)) ledger
+
+-- the whole list from the fresh ring: counts, ledger and stopped
+pub entry-1 :
+    (runAnswer ring (tapeOf (firstTen ++ lastTen)) ledger ≡ done (1 ∷ 1 ∷ 1 ∷ 1 ∷ 1 ∷ 1 ∷ 0 ∷ 4 ∷ []))
+    × (runLedger ring (tapeOf (firstTen ++ lastTen)) ledger
+    ≡ (7 ∷ 0 ∷ 0 ∷ 0 ∷ 1 ∷ 2 ∷ 0 ∷ 0 ∷ 7 ∷ 0 ∷ 0 ∷ 0 ∷ [])
+    ++ ((14 ∷ 0 ∷ 0 ∷ 0 ∷ 1 ∷ 4 ∷ 0 ∷ 0 ∷ 0 ∷ 0 ∷ 0 ∷ 0 ∷ [])
+    ++ ((17 ∷ 0 ∷ 0 ∷ 0 ∷ 0 ∷ 3 ∷ 0 ∷ 0 ∷ 7 ∷ 0 ∷ 0 ∷ 0 ∷ [])
+    ++ (19 ∷ 0 ∷ 0 ∷ 0 ∷ 0 ∷ 5 ∷ 0 ∷ 0 ∷ 0 ∷ 0 ∷ 0 ∷ 0 ∷ 255 ∷ []))))
+    × (stoppedAnswer (runImage ring (tapeOf (firstTen ++ lastTen)) ledger) ≡ done (1 ∷ []))
+unfolding rules ring ledger firstTen lastTen
+entry-1 = (refl, refl, refl)
+
+-- its last image, all 32 bytes
+pub entry-2 :
+    runImage ring (tapeOf (firstTen ++ lastTen)) ledger
+    ≡ (2 ∷ replicate 15 0) ++ ((0 ∷ 1 ∷ 4 ∷ replicate 5 0) ++ replicate 8 0)
+unfolding rules ring ledger firstTen lastTen
+entry-2 = refl
+
+-- its first ten events only: stopped, and sent is 0
+pub entry-3 :
+    (stoppedAnswer (runImage ring (tapeOf firstTen) ledger) ≡ done (1 ∷ []))
+    × (runAnswer ring (tapeOf firstTen) ledger ≡ done (1 ∷ 0 ∷ 1 ∷ 0 ∷ 0 ∷ 0 ∷ 0 ∷ 1 ∷ []))
+unfolding rules ring ledger firstTen
+entry-3 = (refl, refl)
+
+-- 1.7 on a fresh ring is idle and changes no byte
+pub entry-4 : (stepAnswer ring (event 1 7 0) ≡ done (0 ∷ 0 ∷ [])) × (stepImage ring (event 1 7 0) ≡ ring)
+unfolding rules ring
+entry-4 = (refl, refl)
+
+-- a second 1.0 after the first is idle, and the note (bytes 28 to 31) is still 7
+pub entry-5 :
+    (stepAnswer (stepImage ring (event 1 0 7)) (event 1 0 9) ≡ done (0 ∷ 0 ∷ []))
+    × (drop 28 (stepImage (stepImage ring (event 1 0 7)) (event 1 0 9)) ≡ 7 ∷ 0 ∷ 0 ∷ 0 ∷ [])
+unfolding rules ring
+entry-5 = (refl, refl)
+
+-- the tape of the one event 1.0 with 7: the check's halves, over the covered bytes and as written
+pub entry-6 :
+    (check (covered (tapeOf (event 1 0 7)) 0) ≡ 9 + 65536 * 2255)
+    × (blockCheck (tapeOf (event 1 0 7)) 0 ≡ 9 + 65536 * 2255)
+unfolding rules
+entry-6 = (refl, refl)
+
+-- N = 64 is accepted and 65 refused 1, by the fresh ring, the writer and the reader
+pub entry-7 :
+    (freshAnswer 64 63 (replicate 528 0) ≡ done [])
+    × (freshAnswer 65 63 (replicate 536 0) ≡ refused 1 0)
+    × (writeAnswer 64 (event 63 0 7) (replicate 512 0) ≡ done (512 ∷ []))
+    × (writeAnswer 65 (event 63 0 7) (replicate 512 0) ≡ refused 1 0)
+    × (readAnswer 64 (tapeOf (event 63 0 7)) (replicate 8 0) ≡ done (8 ∷ []))
+    × (readAnswer 65 (tapeOf (event 63 0 7)) (replicate 8 0) ≡ refused 1 0)
+unfolding rules
+entry-7 = (refl, refl, refl, refl, refl, refl)
+
+-- 63 events make one block, 64 make two
+pub entry-8 :
+    (writeAnswer 2 (copies 63 (event 1 7 0)) (replicate 1024 0) ≡ done (512 ∷ []))
+    × (writeAnswer 2 (copies 64 (event 1 7 0)) (replicate 1024 0) ≡ done (1024 ∷ []))
+unfolding rules
+entry-8 = (refl, refl)
+
+-- an output of 12 bytes holds one record, of 11 none
+pub entry-9 :
+    (runAnswer mayFill (tapeOf (event 1 2 0)) (replicate 12 0) ≡ done (0 ∷ 0 ∷ 1 ∷ 0 ∷ 0 ∷ 0 ∷ 0 ∷ 1 ∷ []))
+    × (runLedger mayFill (tapeOf (event 1 2 0)) (replicate 12 0) ≡ 0 ∷ 0 ∷ 0 ∷ 0 ∷ 1 ∷ 2 ∷ 0 ∷ 0 ∷ 7 ∷ 0 ∷ 0 ∷ 0 ∷ [])
+    × (runAnswer mayFill (tapeOf (event 1 2 0)) (replicate 11 0) ≡ refused 10 0)
+unfolding rules mayFill ring ledger firstTen
+entry-9 = (refl, refl, refl)
+
+-- ---- beside them: the sums of words on the published strings of the Fletcher-32 checksum
+
+pub fletcher-abcde : check (97 ∷ 98 ∷ 99 ∷ 100 ∷ 101 ∷ []) ≡ 0xF04FC729
+unfolding rules
+fletcher-abcde = refl
+
+pub fletcher-abcdef : check (97 ∷ 98 ∷ 99 ∷ 100 ∷ 101 ∷ 102 ∷ []) ≡ 0x56502D2A
+unfolding rules
+fletcher-abcdef = refl
+
+pub fletcher-abcdefgh : check (97 ∷ 98 ∷ 99 ∷ 100 ∷ 101 ∷ 102 ∷ 103 ∷ 104 ∷ []) ≡ 0xEBE19591
+unfolding rules
+fletcher-abcdefgh = refl

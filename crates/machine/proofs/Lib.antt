@@ -1,0 +1,3 @@
+-- What holds of the rules alone.
+pub mod Computed
+pub mod Entries

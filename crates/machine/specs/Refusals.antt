@@ -1,0 +1,153 @@
+-- Where a call is turned down: document 01's table, each row's condition exactly, its place, and the order of the
+-- tests of one input. The order between a call's inputs stands in Answers. Assumes nothing.
+use Prim.Native.Nat.{ℕ, zero, suc, _+_, _-_, _*_, _/_, _%_}
+use mathlib.Core.Bool.{Bool, true, false, not, _&&_, _||_}
+use mathlib.Core.List.{List}
+use lib.ListN.{length, getD}
+use lib.Dec.{eqb, leb, ltb}
+use Rattle.machine.specs.declared.Refusal.{Refusal}
+use Rattle.machine.specs.declared.Refusal.the-variants as refusal
+use Rattle.machine.specs.declared.Verdict.{Verdict}
+use Rattle.machine.specs.declared.Verdict.the-variants.{Fine, Refused}
+use Rattle.machine.specs.Bytes.{number, zeros}
+use Rattle.machine.specs.Ring.{sizeFits, imageLength}
+use Rattle.machine.specs.Image.{sizeIn}
+use Rattle.machine.specs.Sound.{sound}
+use Rattle.machine.specs.Tape.{check, covered, blockNumber, blockCount, blockCheck, slotAt}
+
+-- the table's number of each refusal
+abbrev pub numberOf : Refusal → ℕ
+numberOf refusal.Size = 1
+numberOf refusal.Home = 2
+numberOf refusal.Short = 3
+numberOf refusal.Unsound = 4
+numberOf (refusal.Event i) = 5
+numberOf refusal.Length = 6
+numberOf (refusal.Check b) = 7
+numberOf (refusal.Block b) = 8
+numberOf (refusal.Unused b) = 9
+numberOf refusal.Output = 10
+
+-- its place: the event's number for 5, the block's for 7, 8 and 9, else 0
+abbrev pub placeOf : Refusal → ℕ
+placeOf refusal.Size = 0
+placeOf refusal.Home = 0
+placeOf refusal.Short = 0
+placeOf refusal.Unsound = 0
+placeOf (refusal.Event i) = i
+placeOf refusal.Length = 0
+placeOf (refusal.Check b) = b
+placeOf (refusal.Block b) = b
+placeOf (refusal.Unused b) = b
+placeOf refusal.Output = 0
+
+-- ---- tests in order
+
+-- refused as r unless a condition holds
+abbrev pub unless : Bool → Refusal → Verdict
+unless true r = Fine
+unless false r = Refused r
+
+-- the first of two tests that refuses
+abbrev pub orElse : Verdict → Verdict → Verdict
+orElse Fine v = v
+orElse (Refused r) v = Refused r
+
+-- the first refusal of f at i, i + 1, .. (k of them)
+unfoldable pub first : (ℕ → Verdict) → ℕ → ℕ → Verdict
+first f i zero = Fine
+first f i (suc k) = orElse (f i) (first f (i + 1) k)
+
+-- ---- 1 and 2: arguments
+
+unfoldable pub sizeVerdict : ℕ → Verdict
+sizeVerdict n = unless (sizeFits n) refusal.Size
+
+unfoldable pub homeVerdict : ℕ → ℕ → Verdict
+homeVerdict n home = unless (ltb home n) refusal.Home
+
+-- ---- 3 and 4: an image
+
+-- a buffer has room for the image of n processes
+unfoldable pub roomVerdict : ℕ → List ℕ → Verdict
+roomVerdict n s = unless (leb (imageLength n) (length s)) refusal.Short
+
+-- under 16 bytes is 3, then byte 0 is 4, then the length 3, then the rest 4
+unfoldable pub imageVerdict : List ℕ → Verdict
+imageVerdict s =
+    orElse (unless (leb 16 (length s)) refusal.Short)
+    (orElse (unless (sizeFits (sizeIn s)) refusal.Unsound)
+    (orElse (roomVerdict (sizeIn s) s)
+    (unless (sound s) refusal.Unsound)))
+
+-- ---- 5: an event
+
+-- how many codes there are
+abbrev pub codes : ℕ
+codes = 8
+
+-- an event for n processes stands in 8 bytes of s from `at` on: the process is below n, the code below `codes`, two
+-- bytes are zero, and so is the message unless the code is 0
+unfoldable pub eventFits : ℕ → ℕ → List ℕ → ℕ → Bool
+eventFits codes n s at =
+    ltb (getD s at 0) n && ltb (getD s (at + 1) 0) codes && zeros s (at + 2) 2
+    && (eqb (getD s (at + 1) 0) 0 || zeros s (at + 4) 4)
+
+-- a single event is 8 bytes, and its place is 0
+unfoldable pub eventVerdict : ℕ → ℕ → List ℕ → Verdict
+eventVerdict codes n s = unless (eqb (length s) 8 && eventFits codes n s 0) (refusal.Event 0)
+
+-- ---- 6: the length of a list or a tape
+
+-- whole units, at least `least` and at most `most` of them
+unfoldable pub lengthVerdict : ℕ → ℕ → ℕ → List ℕ → Verdict
+lengthVerdict unit least most s =
+    unless (eqb (length s % unit) 0 && leb least (length s / unit) && leb (length s / unit) most) refusal.Length
+
+abbrev pub mostBlocks : ℕ
+mostBlocks = 65536
+
+abbrev pub mostEvents : ℕ
+mostEvents = 63 * 65536
+
+-- a list: 6, then its events 5
+unfoldable pub listVerdict : ℕ → ℕ → List ℕ → Verdict
+listVerdict codes n s =
+    orElse (lengthVerdict 8 1 mostEvents s)
+    (first (λ k. unless (eventFits codes n s (8 * k)) (refusal.Event k)) 0 (length s / 8))
+
+-- ---- 7, 8, 5, 9: a block of a tape
+
+unfoldable pub checkVerdict : List ℕ → ℕ → Verdict
+checkVerdict s b = unless (eqb (check (covered s b)) (blockCheck s b)) (refusal.Check b)
+
+-- blocks are numbered from 0; each has 63 events but the last, which has 1 to 63
+unfoldable pub blockFits : List ℕ → ℕ → Bool
+blockFits s b =
+    eqb (blockNumber s b) b && leb 1 (blockCount s b) && leb (blockCount s b) 63
+    && (eqb (blockCount s b) 63 || eqb (b + 1) (length s / 512))
+
+unfoldable pub numberVerdict : List ℕ → ℕ → Verdict
+numberVerdict s b = unless (blockFits s b) (refusal.Block b)
+
+unfoldable pub usedVerdict : ℕ → ℕ → List ℕ → ℕ → Verdict
+usedVerdict codes n s b =
+    first (λ j. unless (eventFits codes n s (slotAt b j)) (refusal.Event (63 * b + j))) 0 (blockCount s b)
+
+unfoldable pub unusedVerdict : List ℕ → ℕ → Verdict
+unusedVerdict s b =
+    first (λ j. unless (zeros s (slotAt b j) 8) (refusal.Unused b)) (blockCount s b) (63 - blockCount s b)
+
+unfoldable pub blockVerdict : ℕ → ℕ → List ℕ → ℕ → Verdict
+blockVerdict codes n s b =
+    orElse (checkVerdict s b) (orElse (numberVerdict s b) (orElse (usedVerdict codes n s b) (unusedVerdict s b)))
+
+-- a tape: 6, then its blocks
+unfoldable pub tapeVerdict : ℕ → ℕ → List ℕ → Verdict
+tapeVerdict codes n s =
+    orElse (lengthVerdict 512 1 mostBlocks s) (first (blockVerdict codes n s) 0 (length s / 512))
+
+-- ---- 10: an output
+
+unfoldable pub outputVerdict : ℕ → List ℕ → Verdict
+outputVerdict needed output = unless (leb needed (length output)) refusal.Output

@@ -1,0 +1,43 @@
+-- The stages 0 to 10 of a process, and each set of stages that a rule names: document 01, "The image" and "The eight
+-- events". 0 idle; 1 send told; 2 send waiting; 3 may fill; 4 filled told; 5 filled; 6 receive told; 7 receive waiting;
+-- 8 may empty; 9 emptied told; 10 emptied. Assumes nothing.
+use Prim.Native.Nat.{ℕ}
+use mathlib.Core.Bool.{Bool, cond, _&&_, _||_}
+use lib.Dec.{eqb, leb}
+use Rattle.machine.specs.Fields.{Status}
+
+abbrev pub lastStage : ℕ
+lastStage = 10
+
+abbrev pub within : ℕ → ℕ → ℕ → Bool
+within low high stage = leb low stage && leb stage high
+
+-- the put thread treats these alike
+abbrev pub plain : ℕ → Bool
+plain stage = eqb stage 0 || eqb stage 1 || eqb stage 6
+
+-- main has told its get thread
+abbrev pub told : ℕ → Bool
+told stage = eqb stage 1 || eqb stage 4 || eqb stage 6 || eqb stage 9
+
+-- a put, a get has started and not ended
+abbrev pub sending : ℕ → Bool
+sending = within 1 5
+
+abbrev pub receiving : ℕ → Bool
+receiving = within 6 10
+
+-- a note stands only here
+abbrev pub noted : ℕ → Bool
+noted = within 1 3
+
+-- stages that have an empty, a full envelope
+abbrev pub withEmpty : ℕ → Bool
+withEmpty stage = eqb stage 3 || eqb stage 9 || eqb stage 10
+
+abbrev pub withFull : ℕ → Bool
+withFull stage = eqb stage 4 || eqb stage 5 || eqb stage 8
+
+-- a mark for s stands only here
+abbrev pub markable : Status → ℕ → Bool
+markable s = cond s (within 7 10) (within 2 5)
