@@ -3,24 +3,25 @@
 use Prim.Native.Nat.{ℕ, _+_, _*_}
 use mathlib.Core.Path.{_≡_, refl}
 use mathlib.Core.List.{List, [], _∷_, _++_}
-use lib.ListN.{take, drop, replicate}
+use lib.ListN.{drop, replicate}
 use Rattle.machine.specs.Bytes.{bytes}
-use Rattle.machine.specs.Tape.{tapeOf, check, covered, blockCheck, join}
+use Rattle.machine.specs.Lists.{join}
+use Rattle.machine.specs.Tape.{tapeOf, check, covered, blockCheck}
 use Rattle.machine.specs.Answers.{Answer, freshAnswer, freshImage, stepAnswer, stepImage, runAnswer, runImage, runLedger, stoppedAnswer, writeAnswer, readAnswer}
 use Rattle.machine.proofs.Computed.{rules}
 
-abbrev done : List ℕ → Answer
+abbrev pub done : List ℕ → Answer
 done values = record { number = 0; values = values }
 
-abbrev refused : ℕ → ℕ → Answer
+abbrev pub refused : ℕ → ℕ → Answer
 refused number place = record { number = number; values = place ∷ [] }
 
 -- an event p.c with message m, as bytes
-abbrev event : ℕ → ℕ → ℕ → List ℕ
+abbrev pub event : ℕ → ℕ → ℕ → List ℕ
 event p c m = p ∷ c ∷ 0 ∷ 0 ∷ bytes 4 m
 
 -- n copies of an event
-abbrev copies : ℕ → List ℕ → List ℕ
+abbrev pub copies : ℕ → List ℕ → List ℕ
 copies n e = join (replicate n e)
 
 unfoldable pub firstTen : List ℕ
@@ -43,9 +44,9 @@ ring = freshImage 2 0 (replicate 32 255)
 unfoldable pub ledger : List ℕ
 ledger = replicate 49 255
 
--- the ring after the first seven events: process 1 may fill
+-- a ring of two in which process 1 has the envelope and may fill it with 7
 unfoldable pub mayFill : List ℕ
-mayFill = runImage ring (tapeOf (take 56 firstTen)) ledger
+mayFill = (2 ∷ replicate 15 0) ++ (replicate 8 0 ++ (3 ∷ 1 ∷ 0 ∷ 0 ∷ bytes 4 7))
 
 -- the whole list from the fresh ring: counts, ledger and stopped
 pub entry-1 :
@@ -115,7 +116,7 @@ pub entry-9 :
     (runAnswer mayFill (tapeOf (event 1 2 0)) (replicate 12 0) ≡ done (0 ∷ 0 ∷ 1 ∷ 0 ∷ 0 ∷ 0 ∷ 0 ∷ 1 ∷ []))
     × (runLedger mayFill (tapeOf (event 1 2 0)) (replicate 12 0) ≡ 0 ∷ 0 ∷ 0 ∷ 0 ∷ 1 ∷ 2 ∷ 0 ∷ 0 ∷ 7 ∷ 0 ∷ 0 ∷ 0 ∷ [])
     × (runAnswer mayFill (tapeOf (event 1 2 0)) (replicate 11 0) ≡ refused 10 0)
-unfolding rules mayFill ring ledger firstTen
+unfolding rules mayFill
 entry-9 = (refl, refl, refl)
 
 -- ---- beside them: the sums of words on the published strings of the Fletcher-32 checksum

@@ -15,20 +15,32 @@ bit false = 0
 abbrev pub bitOf : ℕ → ℕ → Bool
 bitOf byte k = eqb (byte / 2 ^ k % 2) 1
 
--- the number that stands in `width` bytes of s from `at` on, lowest byte first
+-- the `width` bytes of s from `at` on
+abbrev pub part : List ℕ → ℕ → ℕ → List ℕ
+part s at width = take width (drop at s)
+
+-- bytes as one number, lowest byte first
+unfoldable pub littleEndian : List ℕ → ℕ
+littleEndian [] = 0
+littleEndian (b ∷ bs) = b + 256 * littleEndian bs
+
+-- the number that stands in `width` bytes of s from `at` on
 unfoldable pub number : List ℕ → ℕ → ℕ → ℕ
-number s at zero = 0
-number s at (suc width) = getD s at 0 + 256 * number s (at + 1) width
+number s at width = littleEndian (part s at width)
 
 -- n as `width` bytes, lowest byte first
 unfoldable pub bytes : ℕ → ℕ → List ℕ
 bytes zero n = []
 bytes (suc width) n = n % 256 ∷ bytes width (n / 256)
 
+-- whether bytes are all zero
+unfoldable pub allZero : List ℕ → Bool
+allZero [] = true
+allZero (b ∷ bs) = eqb b 0 && allZero bs
+
 -- whether the `width` bytes of s from `at` on are zero
 unfoldable pub zeros : List ℕ → ℕ → ℕ → Bool
-zeros s at zero = true
-zeros s at (suc width) = eqb (getD s at 0) 0 && zeros s (at + 1) width
+zeros s at width = allZero (part s at width)
 
 -- s with bs written over it from `at` on; every other byte is kept
 unfoldable pub splice : List ℕ → ℕ → List ℕ → List ℕ

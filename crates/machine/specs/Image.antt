@@ -1,6 +1,6 @@
 -- The image: document 01, "The image", header and process record. An image is read as a state, the envelope and the
 -- list of the processes, and a state is written as an image. Assumes nothing.
-use Prim.Native.Nat.{ℕ, zero, suc, _+_, _*_}
+use Prim.Native.Nat.{ℕ, _+_, _*_}
 use mathlib.Core.Bool.{Bool}
 use mathlib.Core.List.{List, [], _∷_, _++_}
 use lib.ListN.{length, getD}
@@ -9,6 +9,7 @@ use Rattle.machine.specs.declared.Pair.{Pair}
 use Rattle.machine.specs.declared.Envelope.{Envelope}
 use Rattle.machine.specs.declared.Process.{Process}
 use Rattle.machine.specs.Bytes.{bit, bitOf, number, bytes, splice}
+use Rattle.machine.specs.Lists.{tabulate}
 use Rattle.machine.specs.Ring.{recordAt}
 use Rattle.machine.specs.Fields.{processOf}
 
@@ -43,11 +44,6 @@ processFrom stage flags requests note =
 unfoldable pub processIn : List ℕ → ℕ → Process
 processIn s i =
     processFrom (getD s (recordAt i) 0) (getD s (recordAt i + 1) 0) (getD s (recordAt i + 2) 0) (number s (recordAt i + 4) 4)
-
--- f at i, i + 1, .. (n of them)
-unfoldable pub tabulate : {A : Type 0} → (ℕ → A) → ℕ → ℕ → List A
-tabulate f i zero = []
-tabulate f i (suc n) = f i ∷ tabulate f (i + 1) n
 
 -- the records of processes 0 to n − 1
 unfoldable pub processesIn : List ℕ → ℕ → List Process

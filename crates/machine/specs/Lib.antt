@@ -1,5 +1,6 @@
 -- Document 01 as definitions, a module for each of its sections, in its order.
 pub mod Bytes
+pub mod Lists
 pub mod Ring
 pub mod Fields
 pub mod Image

@@ -1,6 +1,6 @@
 -- Soundness: document 01, "The image", its paragraph on ranges and zeros, in three parts: the bytes of the header, the
 -- bytes of the records, and the rest. Byte 0 and the length are the table's (Refusals). Assumes nothing.
-use Prim.Native.Nat.{ℕ, zero, suc, _+_, _*_}
+use Prim.Native.Nat.{ℕ, _+_, _*_}
 use mathlib.Core.Bool.{Bool, true, false, not, _&&_, _||_}
 use mathlib.Core.List.{List, [], _∷_}
 use lib.ListN.{getD}
@@ -8,18 +8,35 @@ use lib.Dec.{eqb, leb, ltb}
 use lib.Count.{onesIn}
 use Rattle.machine.specs.declared.Envelope.{Envelope}
 use Rattle.machine.specs.declared.Process.{Process}
-use Rattle.machine.specs.Bytes.{bit, number, zeros}
+use Rattle.machine.specs.Bytes.{bit, zeros}
+use Rattle.machine.specs.Lists.{every, all}
 use Rattle.machine.specs.Ring.{recordAt}
 use Rattle.machine.specs.Fields.{Status, full, empty, for, count}
 use Rattle.machine.specs.Image.{State, processIn, stateIn, sizeIn}
 use Rattle.machine.specs.Stages.{lastStage, noted, withEmpty, withFull, markable}
 
+-- whether every rule of a list holds
+abbrev pub holdsFrom : Bool → List Bool → Bool
+holdsFrom sofar [] = sofar
+holdsFrom sofar (rule ∷ rules) = holdsFrom (sofar && rule) rules
+
+abbrev pub holds : List Bool → Bool
+holds rules = holdsFrom true rules
+
 -- ---- the header's bytes, each by its own range or zero
 
--- byte 1 is 0 or 1, byte 2 has bits 0 and 1 alone, the unnamed bytes are 0, and an empty envelope's message is 0
+-- byte 1 is 0 or 1; byte 2 has bits 0 and 1 alone; bytes 5 to 7 are 0; the message is 0 when empty; bytes 12 to 15 are 0
+abbrev pub headerRules : List ℕ → List Bool
+headerRules s =
+    leb (getD s 1 0) 1
+    ∷ leb (getD s 2 0) 3
+    ∷ zeros s 5 3
+    ∷ (eqb (getD s 1 0) 1 || zeros s 8 4)
+    ∷ zeros s 12 4
+    ∷ []
+
 unfoldable pub headerFits : List ℕ → Bool
-headerFits s =
-    leb (getD s 1 0) 1 && leb (getD s 2 0) 3 && zeros s 5 3 && (eqb (getD s 1 0) 1 || eqb (number s 8 4) 0) && zeros s 12 4
+headerFits s = holds (headerRules s)
 
 -- ---- a record's bytes, each by its own range or zero
 
@@ -31,18 +48,16 @@ markFits s p = not (for (p .mark) s) || markable s (p .stage)
 abbrev pub noteFits : Process → Bool
 noteFits p = noted (p .stage) || eqb (p .note) 0
 
--- byte 0 is a stage, byte 1 has bits 0 to 2 alone, byte 2's marks fit, byte 3 is 0, and bytes 4 to 7 fit
-abbrev pub recordFits : ℕ → ℕ → Process → Bool
-recordFits flags zeroed p =
-    leb (p .stage) lastStage && leb flags 7 && markFits full p && markFits empty p && eqb zeroed 0 && noteFits p
+-- byte 0 is a stage; byte 1 has bits 0 to 2 alone; byte 2's marks fit the stage; byte 3 is 0; the note fits the stage
+abbrev pub recordRules : ℕ → ℕ → Process → List Bool
+recordRules flags third p =
+    leb (p .stage) lastStage ∷ leb flags 7 ∷ markFits full p ∷ markFits empty p ∷ eqb third 0 ∷ noteFits p ∷ []
 
--- whether f holds of 0 to n − 1
-unfoldable pub every : ℕ → (ℕ → Bool) → Bool
-every zero f = true
-every (suc n) f = every n f && f n
+abbrev pub recordRulesIn : List ℕ → ℕ → List Bool
+recordRulesIn s i = recordRules (getD s (recordAt i + 1) 0) (getD s (recordAt i + 3) 0) (processIn s i)
 
 unfoldable pub recordsFit : List ℕ → ℕ → Bool
-recordsFit s n = every n (λ i. recordFits (getD s (recordAt i + 1) 0) (getD s (recordAt i + 3) 0) (processIn s i))
+recordsFit s n = every n (λ i. holds (recordRulesIn s i))
 
 -- ---- the rest: what binds one byte to others
 
@@ -57,8 +72,7 @@ stageFits status p =
     (not (withEmpty (p .stage)) || p .have && not status) && (not (withFull (p .stage)) || p .have && status)
 
 unfoldable pub stagesFit : Status → List Process → Bool
-stagesFit status [] = true
-stagesFit status (p ∷ ps) = stageFits status p && stagesFit status ps
+stagesFit status ps = all (stageFits status) ps
 
 -- the set of the processes marked for s, as a number: its digit i is one exactly when process i is marked
 unfoldable pub markedSet : Status → List Process → ℕ
@@ -72,9 +86,17 @@ ones64 set = onesIn 64 set
 abbrev pub countFits : Status → State → Bool
 countFits s st = eqb (ones64 (markedSet s (st .processes))) (count (st .envelope .marked) s)
 
+-- just one flag is set; the stages have the envelope that they need; both counts equal the marks
+abbrev pub restRules : State → List Bool
+restRules st =
+    eqb (places (st .processes)) 1
+    ∷ stagesFit (st .envelope .full) (st .processes)
+    ∷ countFits full st
+    ∷ countFits empty st
+    ∷ []
+
 unfoldable pub restFits : State → Bool
-restFits st =
-    eqb (places (st .processes)) 1 && stagesFit (st .envelope .full) (st .processes) && countFits full st && countFits empty st
+restFits st = holds (restRules st)
 
 -- ---- the whole
 

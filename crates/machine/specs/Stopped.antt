@@ -1,11 +1,12 @@
 -- Stopped: document 01, "The eight events", its last paragraph. Assumes nothing.
 use Prim.Native.Nat.{ℕ}
-use mathlib.Core.Bool.{Bool, true, false, _&&_}
-use mathlib.Core.List.{List, [], _∷_}
+use mathlib.Core.Bool.{Bool, true, false}
+use mathlib.Core.List.{[], _∷_}
 use Rattle.machine.specs.declared.Envelope.{Envelope}
 use Rattle.machine.specs.declared.Process.{Process}
 use Rattle.machine.specs.declared.Outcome.{Outcome}
 use Rattle.machine.specs.declared.Outcome.the-variants.{Idle, Moved, Fill, Take, Sent, Got}
+use Rattle.machine.specs.Lists.{all}
 use Rattle.machine.specs.Image.{State}
 use Rattle.machine.specs.Events.{react}
 
@@ -16,11 +17,6 @@ isIdle (Fill m) = false
 isIdle (Take m) = false
 isIdle Sent = false
 isIdle Got = false
-
--- whether f holds of every element
-unfoldable pub all : {A : Type 0} → (A → Bool) → List A → Bool
-all f [] = true
-all f (x ∷ xs) = f x && all f xs
 
 -- events 2 to 7 are idle at one process
 unfoldable pub quiet : Envelope → Process → Bool

@@ -1,10 +1,10 @@
 -- The tape: document 01, "The tape", and an event's 8 bytes. What a tape holds, and the tape that a list of event
 -- bytes makes; what is refused stands in Refusals. Assumes nothing.
-use Prim.Native.Nat.{ℕ, zero, suc, _+_, _-_, _*_, _/_, _%_}
+use Prim.Native.Nat.{ℕ, _+_, _-_, _*_, _/_, _%_}
 use mathlib.Core.List.{List, [], _∷_, _++_}
 use lib.ListN.{length, getD, take, drop, replicate}
 use Rattle.machine.specs.Bytes.{number, bytes}
-use Rattle.machine.specs.Image.{tabulate}
+use Rattle.machine.specs.Lists.{tabulate, join}
 use Rattle.machine.specs.Events.{Event}
 
 -- ---- events as bytes
@@ -52,10 +52,6 @@ unfoldable pub covered : List ℕ → ℕ → List ℕ
 covered s b = take 4 (drop (512 * b) s) ++ take 504 (drop (512 * b + 8) s)
 
 -- ---- what a reader gives: the used slots, block after block
-
-unfoldable pub join : List (List ℕ) → List ℕ
-join [] = []
-join (x ∷ xs) = x ++ join xs
 
 unfoldable pub usedSlots : List ℕ → ℕ → List ℕ
 usedSlots s b = take (8 * blockCount s b) (drop (slotAt b 0) s)

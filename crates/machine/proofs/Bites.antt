@@ -1,0 +1,317 @@
+-- Every rule of the image and every cause of a refusal is shown to bite: one list of inputs, each with the answer that
+-- document 01 gives it, and one theorem that the checker computes. Assumes nothing.
+use Prim.Native.Nat.{ℕ, zero, suc, _+_, _-_, _*_}
+use mathlib.Core.Path.{_≡_, refl}
+use mathlib.Core.Bool.{Bool, true, false, _&&_}
+use mathlib.Core.List.{List, [], _∷_, _++_}
+use lib.ListN.{length, set, take, replicate}
+use lib.Dec.{eqb}
+use Rattle.machine.specs.declared.Verdict.{Verdict}
+use Rattle.machine.specs.declared.Verdict.the-variants.{Fine, Refused}
+use Rattle.machine.specs.declared.Refusal.the-variants as refusal
+use Rattle.machine.specs.Bytes.{bytes}
+use Rattle.machine.specs.Image.{sizeIn, stateIn}
+use Rattle.machine.specs.Sound.{headerRules, recordRulesIn, restRules}
+use Rattle.machine.specs.Tape.{blockBytes, padded}
+use Rattle.machine.specs.Refusals.{lengthVerdict, mostBlocks, mostEvents}
+use Rattle.machine.specs.Answers.{Answer, freshAnswer, stepAnswer, runAnswer, stoppedAnswer, writeAnswer, readAnswer}
+use Rattle.machine.proofs.Computed.{rules}
+use Rattle.machine.proofs.Entries.{done, refused, event, copies, mayFill}
+
+-- what a call answers, and what it is to answer
+pub record Case : Type 0 where
+  pub answers : Answer
+  pub wanted : Answer
+
+abbrev case : Answer → Answer → Case
+case a w = record { answers = a; wanted = w }
+
+-- ---- images
+
+-- how many of the rules an image breaks
+abbrev broken : List Bool → ℕ
+broken [] = 0
+broken (true ∷ rules) = broken rules
+broken (false ∷ rules) = suc (broken rules)
+
+abbrev brokenRecords : List ℕ → ℕ → ℕ
+brokenRecords s zero = 0
+brokenRecords s (suc n) = broken (recordRulesIn s n) + brokenRecords s n
+
+abbrev brokenIn : List ℕ → ℕ
+brokenIn s = broken (headerRules s) + brokenRecords s (sizeIn s) + broken (restRules (stateIn s))
+
+-- a rule and its neighbourhood: an image that breaks that rule and no other, and the nearest one that breaks none
+pub record Edge : Type 0 where
+  pub breaks : List ℕ
+  pub meets : List ℕ
+
+abbrev edge : List ℕ → List ℕ → Edge
+edge b m = record { breaks = b; meets = m }
+
+abbrev edgeCases : List Edge → List Case
+edgeCases [] = []
+edgeCases (x ∷ xs) =
+    case (stoppedAnswer (x .breaks)) (refused 4 0)
+    ∷ case (done (brokenIn (x .breaks) ∷ [])) (done (1 ∷ []))
+    ∷ case (record { number = stoppedAnswer (x .meets) .number; values = brokenIn (x .meets) ∷ [] }) (done (0 ∷ []))
+    ∷ edgeCases xs
+
+-- an image of two processes: header bytes 1 to 4 and the message, then each record
+abbrev image : ℕ → ℕ → ℕ → ℕ → ℕ → List ℕ → List ℕ → List ℕ
+image status markers countFull countEmpty message p q =
+    (2 ∷ status ∷ markers ∷ countFull ∷ countEmpty ∷ 0 ∷ 0 ∷ 0 ∷ bytes 4 message) ++ (replicate 4 0 ++ (p ++ q))
+
+abbrev record8 : ℕ → ℕ → ℕ → ℕ → List ℕ
+record8 stage flags requests note = stage ∷ flags ∷ requests ∷ 0 ∷ bytes 4 note
+
+-- process 0 at a stage, and process 1 at rest with the envelope; process 0 at a stage with the envelope
+abbrev without : ℕ → ℕ → ℕ → List ℕ
+without stage requests note = image 0 0 0 0 0 (record8 stage 0 requests note) (record8 0 1 0 0)
+
+abbrev having : ℕ → ℕ → List ℕ
+having status stage = image status 0 0 0 0 (record8 stage 1 0 0) (record8 0 0 0 0)
+
+-- process 0 at a stage with a mark, and the counts
+abbrev marked : ℕ → ℕ → ℕ → ℕ → ℕ → ℕ → List ℕ
+marked status countFull countEmpty stage flags requests =
+    image status 0 countFull countEmpty 0 (record8 stage flags requests 0) (record8 0 (1 - flags) 0 0)
+
+-- the fresh ring with one byte changed
+abbrev altered : ℕ → ℕ → List ℕ
+altered k v = set (having 0 0) k v
+
+-- a byte that is to be zero
+abbrev zeroEdge : ℕ → Edge
+zeroEdge k = edge (altered k 1) (altered k 0)
+
+-- a stage needs the envelope, of one status
+abbrev needsEdges : ℕ → ℕ → List Edge
+needsEdges status stage =
+    edge (image status 0 0 0 0 (record8 stage 0 0 0) (record8 0 1 0 0)) (having status stage)
+    ∷ edge (having (1 - status) stage) (having status stage)
+    ∷ []
+
+abbrev edges : List Edge
+edges =
+    edge (altered 1 2) (altered 1 1)
+    ∷ edge (altered 2 4) (altered 2 3)
+    ∷ zeroEdge 5
+    ∷ zeroEdge 6
+    ∷ zeroEdge 7
+    ∷ edge (altered 8 1) (set (altered 8 1) 1 1)
+    ∷ edge (altered 11 1) (set (altered 11 1) 1 1)
+    ∷ zeroEdge 12
+    ∷ zeroEdge 13
+    ∷ zeroEdge 14
+    ∷ zeroEdge 15
+    ∷ edge (having 0 11) (having 0 10)
+    ∷ edge (altered 25 8) (altered 25 4)
+    ∷ edge (altered 25 128) (altered 25 4)
+    ∷ edge (marked 0 1 0 6 0 16) (marked 0 1 0 7 0 16)
+    ∷ edge (marked 1 1 0 5 1 16) (marked 0 1 0 10 1 16)
+    ∷ edge (marked 0 0 1 1 0 32) (marked 0 0 1 2 0 32)
+    ∷ edge (marked 0 0 1 6 0 32) (marked 1 0 1 5 1 32)
+    ∷ zeroEdge 19
+    ∷ zeroEdge 27
+    ∷ edge (without 0 0 1) (without 1 0 1)
+    ∷ edge (without 0 0 16777216) (without 2 0 16777216)
+    ∷ edge (image 1 0 0 0 0 (record8 4 1 0 1) (record8 0 0 0 0)) (image 0 0 0 0 0 (record8 3 1 0 1) (record8 0 0 0 0))
+    ∷ edge (image 0 0 0 0 0 (record8 0 0 0 0) (record8 0 0 0 0)) (image 0 0 0 0 0 (record8 0 0 0 0) (record8 0 2 0 0))
+    ∷ edge (image 0 0 0 0 0 (record8 0 1 0 0) (record8 0 1 0 0)) (image 0 0 0 0 0 (record8 0 0 0 0) (record8 0 1 0 0))
+    ∷ edge (image 0 0 0 0 0 (record8 0 3 0 0) (record8 0 0 0 0)) (image 0 0 0 0 0 (record8 0 2 0 0) (record8 0 0 0 0))
+    ∷ edge (image 0 0 0 0 0 (record8 0 2 0 0) (record8 0 1 0 0)) (image 0 0 0 0 0 (record8 0 1 0 0) (record8 0 0 0 0))
+    ∷ needsEdges 0 3
+    ++ (needsEdges 0 9
+    ++ (needsEdges 0 10
+    ++ (needsEdges 1 4
+    ++ (needsEdges 1 5
+    ++ (needsEdges 1 8
+    ++ (edge (altered 3 1) (altered 3 0)
+    ∷ edge (altered 4 1) (altered 4 0)
+    ∷ edge (marked 0 0 0 7 0 16) (marked 0 1 0 7 0 16)
+    ∷ edge (marked 0 2 0 7 0 16) (marked 0 1 0 7 0 16)
+    ∷ edge (marked 0 0 0 2 0 32) (marked 0 0 1 2 0 32)
+    ∷ edge (marked 0 0 2 2 0 32) (marked 0 0 1 2 0 32)
+    ∷ []))))))
+
+-- ---- the table, call by call
+
+abbrev ring : List ℕ
+ring = having 0 0
+
+-- a sound image with a fault
+abbrev unsound : List ℕ
+unsound = altered 1 2
+
+abbrev freshCases : List Case
+freshCases =
+    case (freshAnswer 0 0 ring) (refused 1 0)
+    ∷ case (freshAnswer 1 0 ring) (refused 1 0)
+    ∷ case (freshAnswer 2 0 ring) (done [])
+    ∷ case (freshAnswer 65 0 (replicate 536 0)) (refused 1 0)
+    ∷ case (freshAnswer 258 0 ring) (refused 1 0)
+    ∷ case (freshAnswer 4 4 (replicate 48 0)) (refused 2 0)
+    ∷ case (freshAnswer 4 3 (replicate 48 0)) (done [])
+    ∷ case (freshAnswer 2 1 (take 31 ring)) (refused 3 0)
+    ∷ case (freshAnswer 2 1 []) (refused 3 0)
+    ∷ case (freshAnswer 2 1 unsound) (done [])
+    -- 1 before 2 and 3, 2 before 3
+    ∷ case (freshAnswer 1 1 []) (refused 1 0)
+    ∷ case (freshAnswer 2 2 []) (refused 2 0)
+    ∷ []
+
+abbrev imageCases : List Case
+imageCases =
+    case (stoppedAnswer []) (refused 3 0)
+    ∷ case (stoppedAnswer (take 15 ring)) (refused 3 0)
+    ∷ case (stoppedAnswer (take 16 ring)) (refused 3 0)
+    ∷ case (stoppedAnswer (take 31 ring)) (refused 3 0)
+    ∷ case (stoppedAnswer ring) (done (1 ∷ []))
+    ∷ case (stoppedAnswer (ring ++ (255 ∷ []))) (done (1 ∷ []))
+    ∷ case (stoppedAnswer (altered 25 4)) (done (0 ∷ []))
+    -- under 16 bytes before byte 0, byte 0 before the length, the length before the rest
+    ∷ case (stoppedAnswer (1 ∷ replicate 14 0)) (refused 3 0)
+    ∷ case (stoppedAnswer (1 ∷ replicate 15 0)) (refused 4 0)
+    ∷ case (stoppedAnswer (65 ∷ replicate 15 0)) (refused 4 0)
+    ∷ case (stoppedAnswer (64 ∷ replicate 15 0)) (refused 3 0)
+    ∷ case (stoppedAnswer (take 31 unsound)) (refused 3 0)
+    ∷ []
+
+abbrev stepCases : List Case
+stepCases =
+    case (stepAnswer ring []) (refused 5 0)
+    ∷ case (stepAnswer ring (take 7 (event 1 0 7))) (refused 5 0)
+    ∷ case (stepAnswer ring (event 1 0 7 ++ (0 ∷ []))) (refused 5 0)
+    ∷ case (stepAnswer ring (event 2 0 7)) (refused 5 0)
+    ∷ case (stepAnswer ring (event 1 8 0)) (refused 5 0)
+    ∷ case (stepAnswer ring (event 1 7 0)) (done (0 ∷ 0 ∷ []))
+    ∷ case (stepAnswer ring (set (event 1 0 7) 2 1)) (refused 5 0)
+    ∷ case (stepAnswer ring (set (event 1 0 7) 3 1)) (refused 5 0)
+    ∷ case (stepAnswer ring (event 1 1 7)) (refused 5 0)
+    ∷ case (stepAnswer ring (event 1 1 16777216)) (refused 5 0)
+    ∷ case (stepAnswer ring (event 1 0 7)) (done (1 ∷ 0 ∷ []))
+    -- the image before the event
+    ∷ case (stepAnswer (take 31 ring) []) (refused 3 0)
+    ∷ case (stepAnswer unsound []) (refused 4 0)
+    ∷ []
+
+-- a block with its check right
+abbrev block : ℕ → ℕ → List ℕ → List ℕ
+block number count events = blockBytes number count (padded events)
+
+-- the same with byte k altered and the check as it was
+abbrev damaged : ℕ → ℕ → List ℕ → List ℕ
+damaged k v s = set s k v
+
+abbrev puts : ℕ → List ℕ
+puts n = copies n (event 1 7 0)
+
+abbrev reading : List ℕ → Answer
+reading tape = readAnswer 2 tape (replicate 1008 0)
+
+abbrev tapeCases : List Case
+tapeCases =
+    case (reading []) (refused 6 0)
+    ∷ case (reading (take 511 (block 0 1 (event 1 0 7)))) (refused 6 0)
+    ∷ case (reading (block 0 1 (event 1 0 7) ++ (0 ∷ []))) (refused 6 0)
+    ∷ case (reading (block 0 1 (event 1 0 7))) (done (8 ∷ []))
+    ∷ case (reading (damaged 511 1 (block 0 1 (event 1 0 7)))) (refused 7 0)
+    ∷ case (reading (damaged 4 8 (block 0 1 (event 1 0 7)))) (refused 7 0)
+    -- a sum that is 0 mod 65,535 is written 0, never 65,535
+    ∷ case (reading (block 0 1 (event 1 0 65533))) (done (8 ∷ []))
+    ∷ case (reading (damaged 4 255 (damaged 5 255 (block 0 1 (event 1 0 65533))))) (refused 7 0)
+    ∷ case (reading (block 1 1 (event 1 0 7))) (refused 8 0)
+    ∷ case (reading (block 0 0 (event 1 0 7))) (refused 8 0)
+    ∷ case (reading (block 0 64 (puts 63))) (refused 8 0)
+    ∷ case (reading (block 0 63 (puts 63))) (done (504 ∷ []))
+    ∷ case (reading (block 0 1 (event 2 0 7))) (refused 5 0)
+    ∷ case (reading (block 0 63 (puts 62 ++ event 1 8 0))) (refused 5 62)
+    ∷ case (reading (block 0 1 (event 1 0 7 ++ event 1 0 7))) (refused 9 0)
+    ∷ case (reading (block 0 62 (puts 62 ++ (0 ∷ 0 ∷ 0 ∷ 0 ∷ 0 ∷ 0 ∷ 0 ∷ 1 ∷ [])))) (refused 9 0)
+    -- in a second block
+    ∷ case (reading (block 0 63 (puts 63) ++ block 1 1 (event 1 0 7))) (done (512 ∷ []))
+    ∷ case (reading (block 0 62 (puts 62) ++ block 1 1 (event 1 0 7))) (refused 8 0)
+    ∷ case (reading (block 0 63 (puts 63) ++ damaged 8 0 (block 1 1 (event 1 0 7)))) (refused 7 1)
+    ∷ case (reading (block 0 63 (puts 63) ++ block 0 1 (event 1 0 7))) (refused 8 1)
+    ∷ case (reading (block 0 63 (puts 63) ++ block 1 2 (event 1 0 7 ++ event 1 1 7))) (refused 5 64)
+    ∷ case (reading (block 0 63 (puts 63) ++ block 1 1 (event 1 0 7 ++ event 1 0 7))) (refused 9 1)
+    -- 7 before 8, 8 before 5, 5 before 9, a block before the next, the tape before the output
+    ∷ case (reading (damaged 8 0 (block 1 1 (event 1 0 7)))) (refused 7 0)
+    ∷ case (reading (block 1 1 (event 2 0 7))) (refused 8 0)
+    ∷ case (reading (block 0 1 (event 2 0 7 ++ event 1 0 7))) (refused 5 0)
+    ∷ case (reading (block 0 63 (puts 62 ++ event 2 0 0) ++ damaged 8 0 (block 1 1 (event 1 0 7)))) (refused 5 62)
+    ∷ case (readAnswer 2 (block 0 1 (event 1 0 7)) (replicate 7 0)) (refused 10 0)
+    ∷ case (readAnswer 2 (block 0 1 (event 2 0 7)) []) (refused 5 0)
+    -- the argument before the tape
+    ∷ case (readAnswer 1 [] []) (refused 1 0)
+    ∷ []
+
+abbrev runCases : List Case
+runCases =
+    case (runAnswer mayFill (block 0 1 (event 1 2 0)) (replicate 12 0)) (done (0 ∷ 0 ∷ 1 ∷ 0 ∷ 0 ∷ 0 ∷ 0 ∷ 1 ∷ []))
+    ∷ case (runAnswer mayFill (block 0 1 (event 1 2 0)) (replicate 11 0)) (refused 10 0)
+    -- a run without records takes no bytes
+    ∷ case (runAnswer ring (block 0 1 (event 1 7 0)) []) (done (0 ∷ 0 ∷ 0 ∷ 0 ∷ 0 ∷ 0 ∷ 1 ∷ 0 ∷ []))
+    -- the image before the tape, the tape before the ledger
+    ∷ case (runAnswer (take 31 ring) [] []) (refused 3 0)
+    ∷ case (runAnswer unsound [] []) (refused 4 0)
+    ∷ case (runAnswer mayFill [] []) (refused 6 0)
+    ∷ case (runAnswer mayFill (block 0 1 (event 2 2 0)) []) (refused 5 0)
+    ∷ []
+
+abbrev writing : List ℕ → Answer
+writing list = writeAnswer 2 list (replicate 512 0)
+
+abbrev writeCases : List Case
+writeCases =
+    case (writing []) (refused 6 0)
+    ∷ case (writing (take 7 (event 1 0 7))) (refused 6 0)
+    ∷ case (writing (event 1 0 7 ++ (0 ∷ []))) (refused 6 0)
+    ∷ case (writing (event 1 0 7)) (done (512 ∷ []))
+    ∷ case (writing (event 1 0 7 ++ event 1 8 0)) (refused 5 1)
+    ∷ case (writeAnswer 2 (event 1 0 7) (replicate 511 0)) (refused 10 0)
+    -- 1 before 6, 6 before 5, 5 before 10
+    ∷ case (writeAnswer 65 [] []) (refused 1 0)
+    ∷ case (writing (event 2 0 7 ++ (0 ∷ []))) (refused 6 0)
+    ∷ case (writeAnswer 2 (event 2 0 7) []) (refused 5 0)
+    ∷ []
+
+-- ---- all of them
+
+abbrev pub cases : List Case
+cases =
+    edgeCases edges ++ (freshCases ++ (imageCases ++ (stepCases ++ (tapeCases ++ (runCases ++ writeCases)))))
+
+-- whether two answers are the same, number and values
+abbrev pub sameValues : List ℕ → List ℕ → Bool
+sameValues [] [] = true
+sameValues [] (y ∷ ys) = false
+sameValues (x ∷ xs) [] = false
+sameValues (x ∷ xs) (y ∷ ys) = eqb x y && sameValues xs ys
+
+abbrev pub met : List Case → Bool
+met [] = true
+met (c ∷ cs) =
+    eqb (c .answers .number) (c .wanted .number) && sameValues (c .answers .values) (c .wanted .values) && met cs
+
+pub every-rule-bites : met cases ≡ true
+unfolding rules mayFill
+every-rule-bites = refl
+
+-- what no list here is long enough to show: the most blocks and events pass the test of length, and one more is 6
+pub longest-tape : (s : List ℕ) → length s ≡ 512 * 65536 → lengthVerdict 512 1 mostBlocks s ≡ Fine
+unfolding lengthVerdict
+longest-tape s e = rw e
+
+pub longer-tape : (s : List ℕ) → length s ≡ 512 * 65537 → lengthVerdict 512 1 mostBlocks s ≡ Refused refusal.Length
+unfolding lengthVerdict
+longer-tape s e = rw e
+
+pub longest-list : (s : List ℕ) → length s ≡ 8 * 4128768 → lengthVerdict 8 1 mostEvents s ≡ Fine
+unfolding lengthVerdict
+longest-list s e = rw e
+
+pub longer-list : (s : List ℕ) → length s ≡ 8 * 4128769 → lengthVerdict 8 1 mostEvents s ≡ Refused refusal.Length
+unfolding lengthVerdict
+longer-list s e = rw e

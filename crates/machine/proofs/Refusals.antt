@@ -1,0 +1,146 @@
+-- Laws of verdicts: what an accepted input is known to have, and each way in which an image or a fresh ring is refused.
+-- Assumes nothing.
+use Prim.Native.Nat.{ℕ, zero, suc, _+_, _*_, _≤_, _<_}
+use mathlib.Core.Path.{_≡_, refl, sym, _∙_}
+use mathlib.Core.Bool.{Bool, true, false, _&&_}
+use mathlib.Core.List.{List}
+use native.Mathlib.Omega.{arith}
+use lib.ListN.{length}
+use lib.Dec.{leb, ltb, lit≤}
+use borrow.Author.Tests.{leb-true, ltb-true, le-leb, lt-leb, lt-ltb, le-ltb}
+use Rattle.machine.specs.declared.Refusal.{Refusal}
+use Rattle.machine.specs.declared.Refusal.the-variants as refusal
+use Rattle.machine.specs.declared.Verdict.{Verdict}
+use Rattle.machine.specs.declared.Verdict.the-variants.{Fine, Refused}
+use Rattle.machine.specs.Ring.{sizeFits, imageLength}
+use Rattle.machine.specs.Image.{sizeIn}
+use Rattle.machine.specs.Sound.{sound}
+use Rattle.machine.specs.Refusals.{numberOf, unless, orElse, sizeVerdict, homeVerdict, roomVerdict, imageVerdict}
+use Rattle.machine.specs.Answers.{freshVerdict}
+use Rattle.machine.proofs.Lists.{and-first, and-second}
+
+-- every refusal's number is 1 to 10
+pub number-range : (r : Refusal) → (1 ≤ numberOf r) × (numberOf r ≤ 10)
+number-range refusal.Size = (lit≤ tt, lit≤ tt)
+number-range refusal.Home = (lit≤ tt, lit≤ tt)
+number-range refusal.Short = (lit≤ tt, lit≤ tt)
+number-range refusal.Unsound = (lit≤ tt, lit≤ tt)
+number-range (refusal.Event i) = (lit≤ tt, lit≤ tt)
+number-range refusal.Length = (lit≤ tt, lit≤ tt)
+number-range (refusal.Check b) = (lit≤ tt, lit≤ tt)
+number-range (refusal.Block b) = (lit≤ tt, lit≤ tt)
+number-range (refusal.Unused b) = (lit≤ tt, lit≤ tt)
+number-range refusal.Output = (lit≤ tt, lit≤ tt)
+
+-- ---- what an accepted input is known to have
+
+pub unless-fine : (b : Bool) (r : Refusal) → unless b r ≡ Fine → b ≡ true
+unless-fine true r e = refl
+unless-fine false r e = absurd (let z : _≡_ {A = ℕ} 0 1 = cc in omega arith)
+
+pub first-fine : (v w : Verdict) → orElse v w ≡ Fine → v ≡ Fine
+first-fine Fine w e = refl
+first-fine (Refused r) w e = e
+
+pub second-fine : (v w : Verdict) → orElse v w ≡ Fine → w ≡ Fine
+second-fine Fine w e = e
+second-fine (Refused r) w e = absurd (let z : _≡_ {A = ℕ} 0 1 = cc in omega arith)
+
+pub record SizeFits (n : ℕ) : Type 0 where
+  pub least : 2 ≤ n
+  pub most : n ≤ 64
+
+pub size-fits : (n : ℕ) → sizeFits n ≡ true → SizeFits n
+size-fits n e =
+    record {
+      least = leb-true 2 n (and-first (leb 2 n) (leb n 64) e);
+      most = leb-true n 64 (and-second (leb 2 n) (leb n 64) e);
+    }
+
+pub fits-size : (n : ℕ) → SizeFits n → sizeFits n ≡ true
+fits-size n h = rw (le-leb 2 n (h .least), le-leb n 64 (h .most))
+
+pub record FreshFine (n home : ℕ) (s : List ℕ) : Type 0 where
+  pub size : SizeFits n
+  pub below : home < n
+  pub room : imageLength n ≤ length s
+
+pub fresh-fine : (n home : ℕ) (s : List ℕ) → freshVerdict n home s ≡ Fine → FreshFine n home s
+unfolding freshVerdict sizeVerdict homeVerdict roomVerdict
+fresh-fine n home s e =
+    let later = second-fine (sizeVerdict n) (orElse (homeVerdict n home) (roomVerdict n s)) e in
+    record {
+      size = size-fits n (unless-fine (sizeFits n) refusal.Size (first-fine (sizeVerdict n) (orElse (homeVerdict n home) (roomVerdict n s)) e));
+      below = ltb-true home n (unless-fine (ltb home n) refusal.Home (first-fine (homeVerdict n home) (roomVerdict n s) later));
+      room = leb-true (imageLength n) (length s) (unless-fine (leb (imageLength n) (length s)) refusal.Short (second-fine (homeVerdict n home) (roomVerdict n s) later));
+    }
+
+pub record ImageFine (s : List ℕ) : Type 0 where
+  pub header : 16 ≤ length s
+  pub size : SizeFits (sizeIn s)
+  pub room : imageLength (sizeIn s) ≤ length s
+  pub fits : sound s ≡ true
+
+pub image-fine : (s : List ℕ) → imageVerdict s ≡ Fine → ImageFine s
+unfolding imageVerdict roomVerdict
+image-fine s e =
+    let a = unless (leb 16 (length s)) refusal.Short in
+    let b = unless (sizeFits (sizeIn s)) refusal.Unsound in
+    let c = roomVerdict (sizeIn s) s in
+    let d = unless (sound s) refusal.Unsound in
+    let from-b = second-fine a (orElse b (orElse c d)) e in
+    let from-c = second-fine b (orElse c d) from-b in
+    record {
+      header = leb-true 16 (length s) (unless-fine (leb 16 (length s)) refusal.Short (first-fine a (orElse b (orElse c d)) e));
+      size = size-fits (sizeIn s) (unless-fine (sizeFits (sizeIn s)) refusal.Unsound (first-fine b (orElse c d) from-b));
+      room = leb-true (imageLength (sizeIn s)) (length s) (unless-fine (leb (imageLength (sizeIn s)) (length s)) refusal.Short (first-fine c d from-c));
+      fits = unless-fine (sound s) refusal.Unsound (second-fine c d from-c);
+    }
+
+-- ---- each way through the tests of an image
+
+module _ (s : List ℕ) where
+  pub image-under-16 : length s < 16 → imageVerdict s ≡ Refused refusal.Short
+  unfolding imageVerdict
+  image-under-16 h = rw (lt-leb 16 (length s) h)
+
+  pub image-too-few : 16 ≤ length s → sizeIn s < 2 → imageVerdict s ≡ Refused refusal.Unsound
+  unfolding imageVerdict
+  image-too-few h few = rw (le-leb 16 (length s) h, lt-leb 2 (sizeIn s) few)
+
+  pub image-too-many : 16 ≤ length s → 2 ≤ sizeIn s → 64 < sizeIn s → imageVerdict s ≡ Refused refusal.Unsound
+  unfolding imageVerdict
+  image-too-many h low many = rw (le-leb 16 (length s) h, le-leb 2 (sizeIn s) low, lt-leb (sizeIn s) 64 many)
+
+  pub image-short : 16 ≤ length s → SizeFits (sizeIn s) → length s < imageLength (sizeIn s) → imageVerdict s ≡ Refused refusal.Short
+  unfolding imageVerdict roomVerdict
+  image-short h size short = rw (le-leb 16 (length s) h, fits-size (sizeIn s) size, lt-leb (imageLength (sizeIn s)) (length s) short)
+
+  pub image-whole : 16 ≤ length s → SizeFits (sizeIn s) → imageLength (sizeIn s) ≤ length s
+      → imageVerdict s ≡ unless (sound s) refusal.Unsound
+  unfolding imageVerdict roomVerdict
+  image-whole h size room =
+      rw (le-leb 16 (length s) h, fits-size (sizeIn s) size, le-leb (imageLength (sizeIn s)) (length s) room)
+
+-- ---- each way through the tests of a fresh ring
+
+module _ (n home : ℕ) (s : List ℕ) where
+  pub fresh-too-few : n < 2 → freshVerdict n home s ≡ Refused refusal.Size
+  unfolding freshVerdict sizeVerdict
+  fresh-too-few few = rw (lt-leb 2 n few)
+
+  pub fresh-too-many : 2 ≤ n → 64 < n → freshVerdict n home s ≡ Refused refusal.Size
+  unfolding freshVerdict sizeVerdict
+  fresh-too-many low many = rw (le-leb 2 n low, lt-leb n 64 many)
+
+  pub fresh-no-home : SizeFits n → n ≤ home → freshVerdict n home s ≡ Refused refusal.Home
+  unfolding freshVerdict sizeVerdict homeVerdict
+  fresh-no-home size far = rw (fits-size n size, le-ltb home n far)
+
+  pub fresh-short : SizeFits n → home < n → length s < imageLength n → freshVerdict n home s ≡ Refused refusal.Short
+  unfolding freshVerdict sizeVerdict homeVerdict roomVerdict
+  fresh-short size below short = rw (fits-size n size, lt-ltb home n below, lt-leb (imageLength n) (length s) short)
+
+  pub fresh-whole : SizeFits n → home < n → imageLength n ≤ length s → freshVerdict n home s ≡ Fine
+  unfolding freshVerdict sizeVerdict homeVerdict roomVerdict
+  fresh-whole size below room = rw (fits-size n size, lt-ltb home n below, le-leb (imageLength n) (length s) room)
