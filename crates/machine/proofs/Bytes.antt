@@ -7,7 +7,7 @@ use mathlib.Core.Logic.{_⊎_, inl, inr}
 use native.Mathlib.Omega.{arith}
 use native.Mathlib.Numerals.{add-one, towards-suc}
 use lib.ListN.{length, getD, set, take, drop, length-append, length-take, length-drop, List·getD-append, List·getD-eq-default, drop-of-length-le}
-use lib.Seq.{sets-eq, getD-append-add, getD-take, getD-drop, length-take-le, ext-getD, drop-cons, take-append-add, drop-append-add, drop-append-seam, take-nil}
+use lib.Seq.{sets-eq, getD-append-add, getD-take, getD-drop, length-take-le, ext-getD, drop-cons, take-append-add, drop-append-add, drop-append-seam, take-append-seam, drop-drop, take-nil}
 use lib.Dec.{eqb, ltb}
 use lib.Pow.{shr-shr}
 use borrow.Author.Tests.{ltb-true, ltb-false, eqb-true, eqb-false, eq-eqb, ne-eqb}
@@ -173,11 +173,31 @@ splice-whole a b bs e =
     let f : 0 + length bs ≡ length a = omega arith in
     rw (f, drop-append-seam a b)
 
--- stores one after the other, as code makes them, are a splice
-pub stores-8 : (s : List ℕ) (at a b c d e f g h : ℕ) → at + 8 ≤ length s
-    → set (set (set (set (set (set (set (set s at a) (at + 1) b) (at + 2) c) (at + 3) d) (at + 4) e) (at + 5) f) (at + 6) g) (at + 7) h
-    ≡ splice s at (a ∷ b ∷ c ∷ d ∷ e ∷ f ∷ g ∷ h ∷ [])
+-- one after the other
+pub splice-next : (s : List ℕ) (at : ℕ) (a b : List ℕ) → at ≤ length s → splice (splice s at a) (at + length a) b ≡ splice s at (a ++ b)
 unfolding splice
-stores-8 s at a b c d e f g h fits =
-    let vs = a ∷ b ∷ c ∷ d ∷ e ∷ f ∷ g ∷ h ∷ [] in
-    simp towards-suc (simp towards-suc at (sets-eq vs s at fits ∙ append-assoc (take at s) vs (drop (at + 8) s)))
+splice-next s at a b h =
+    let long : length (take at s) ≡ at = length-take-le at s h in
+    let here : at + length a ≡ length (take at s) + length a = omega arith in
+    let there : at + length a + length b ≡ length (take at s) + (length a + length b) = omega arith in
+    let end : length (take at s) + length a + length b ≡ at + length (a ++ b) = omega (arith, length-append a b) in
+    rw (
+      there,
+      here,
+      take-append-add (take at s) (a ++ drop (length (take at s) + length a) s) (length a),
+      take-append-seam a (drop (length (take at s) + length a) s),
+      drop-append-add (take at s) (a ++ drop (length (take at s) + length a) s) (length a + length b),
+      drop-append-add a (drop (length (take at s) + length a) s) (length b),
+      drop-drop (length b) (length (take at s) + length a) s,
+      end,
+    )
+    (append-assoc (take at s) a (b ++ drop (at + length (a ++ b)) s)
+    ∙ ap (λ (l : List ℕ). take at s ++ l) (sym (append-assoc a b (drop (at + length (a ++ b)) s))))
+
+-- stores one after the other, as code makes them, are a splice
+pub stores-4 : (s : List ℕ) (at a b c d : ℕ) → at + 4 ≤ length s
+    → set (set (set (set s at a) (at + 1) b) (at + 2) c) (at + 3) d ≡ splice s at (a ∷ b ∷ c ∷ d ∷ [])
+unfolding splice
+stores-4 s at a b c d fits =
+    let vs = a ∷ b ∷ c ∷ d ∷ [] in
+    simp towards-suc (simp towards-suc at (sets-eq vs s at fits ∙ append-assoc (take at s) vs (drop (at + 4) s)))

@@ -10,5 +10,8 @@ pub mod Readback
 pub mod Sound
 pub mod Rewrite
 pub mod Written
+pub mod Ring
+pub mod Walk
+pub mod Stored
 pub mod Refusals
 pub mod Fresh

@@ -117,10 +117,6 @@ rewrite-header s room small facts =
 
 -- ---- the whole image
 
-pub length-processes : (s : List ℕ) (n : ℕ) → length (processesIn s n) ≡ n
-unfolding processesIn
-length-processes s n = length-tabulate (processIn s) 0 n
-
 pub rewrite-image : (s : List ℕ) → imageLength (sizeIn s) ≤ length s → Bytes s → sound s ≡ true → imageWith s (stateIn s) ≡ s
 unfolding stateIn processesIn
 rewrite-image s room small fits =

@@ -1,0 +1,11 @@
+-- What the fresh ring call's answer tells, in document 01's numbers and values. Assumes nothing.
+use mathlib.Core.List.{[]}
+use Rattle.machine.specs.declared.Verdict.the-variants as verdict
+use Rattle.machine.specs.Answers.{Answer, answer}
+use Rattle.image.specs.declared.ring.FreshAnswer.{FreshAnswer}
+use Rattle.image.specs.declared.ring.FreshAnswer.the-variants.{Done, Refused}
+
+-- done has no values; a refusal has its number and its place
+abbrev pub told : FreshAnswer → Answer
+told Done = answer verdict.Fine []
+told (Refused r) = answer (verdict.Refused r) []

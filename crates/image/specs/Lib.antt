@@ -1,0 +1,4 @@
+-- What this crate's contracts cite beside the rules.
+pub mod Fresh
+pub mod Walk
+pub mod Checked
