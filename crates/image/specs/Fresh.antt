@@ -2,8 +2,8 @@
 use mathlib.Core.List.{[]}
 use Rattle.machine.specs.declared.Verdict.the-variants as verdict
 use Rattle.machine.specs.Answers.{Answer, answer}
-use Rattle.image.specs.declared.ring.FreshAnswer.{FreshAnswer}
-use Rattle.image.specs.declared.ring.FreshAnswer.the-variants.{Done, Refused}
+use Rattle.image.specs.declared.FreshAnswer.{FreshAnswer}
+use Rattle.image.specs.declared.FreshAnswer.the-variants.{Done, Refused}
 
 -- done has no values; a refusal has its number and its place
 abbrev pub told : FreshAnswer → Answer

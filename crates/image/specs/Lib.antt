@@ -1,4 +1,2 @@
--- What this crate's contracts cite beside the rules.
+-- What this crate's contracts cite beside the rules: document 01's numbers and values of its answer.
 pub mod Fresh
-pub mod Walk
-pub mod Checked

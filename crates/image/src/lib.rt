@@ -1,7 +1,78 @@
-// The image: a ring's state in bytes that a caller lends. Document 01, "The image".
+// The ring type: its sizes, the neighbours of a process, and the fresh ring call.
+use machine::Refusal;
+ghost use mathlib.Core.Path.{_≡_};
+ghost use Prim.Native.Nat.{_+_, _≤_, _<_};
+ghost use mathlib.Core.Bool.{Bool};
+ghost use lib.ListN.{length, replicate};
+ghost use Rattle.machine.specs.Bytes.{splice};
+ghost use Rattle.machine.specs.Ring as neighbour;
+ghost use Rattle.machine.specs.Answers.{freshAnswer, freshImage};
+ghost use Rattle.image.specs.Fresh.{told};
 
-pub mod ring; // ring.rt: the ring type, its sizes and neighbours, and the fresh ring call
-pub mod record; // record.rt: a process record in an image
-pub mod header; // header.rt: the envelope in an image's header
-pub mod sound; // sound.rt: whether an image is sound
-mod byte; // byte.rt: bits, bytes and wider numbers
+// A ring of so many processes, numbered from 0.
+pub struct Ring {
+    pub size: usize,
+}
+
+// What the fresh ring call answers.
+pub enum FreshAnswer {
+    Done,
+    Refused(Refusal),
+}
+
+// Zeros over the first bytes of a buffer.
+fn clear(bytes: &mut [u8], count: usize)
+    requires { ⌜ count ≤ length (now bytes) ⌝ }
+    ensures { λ _. ⌜ now (bytes .exit) ≡ splice (now (bytes .entry)) 0 (replicate count 0) ⌝ }
+{
+    for i in 0..count {
+        bytes[i] = 0;
+    }
+}
+
+impl Ring {
+    pub const LEAST: u64 = 2;
+
+    pub const MOST: u64 = 64;
+
+    // The fresh ring call: an image of n processes that is all zero but for n and for the envelope at home, at the
+    // start of a buffer whose further bytes stay. Refused with 1 for n, 2 for home, 3 for the buffer.
+    pub fn fresh(n: u64, home: u64, image: &mut [u8]) -> FreshAnswer
+        ensures answer { λ r. ⌜ told r ≡ freshAnswer n home (now (image .entry)) ⌝ }
+        ensures buffer { λ _. ⌜ now (image .exit) ≡ freshImage n home (now (image .entry)) ⌝ }
+    {
+        if n < Ring::LEAST {
+            return FreshAnswer::Refused(Refusal::Size);
+        }
+        if Ring::MOST < n {
+            return FreshAnswer::Refused(Refusal::Size);
+        }
+        if n <= home {
+            return FreshAnswer::Refused(Refusal::Home);
+        }
+        let count = 16 + 8 * n as usize;
+        if image.len() < count {
+            return FreshAnswer::Refused(Refusal::Short);
+        }
+        clear(image, count);
+        image[0] = n as u8;
+        image[16 + 8 * home as usize + 1] = 1;
+        FreshAnswer::Done
+    }
+
+    // Internal: the process to the left of i, where requests go.
+    pub fn left(self, i: usize) -> usize
+        requires { ⌜ i < self .size ⌝ }
+        ensures { λ r. ⌜ r ≡ neighbour.left (self .size) i ⌝ }
+    {
+        if i == 0 { self.size - 1 } else { i - 1 }
+    }
+
+    // Internal: the process to the right of i, where the envelope goes.
+    pub fn right(self, i: usize) -> usize
+        requires { ⌜ i < self .size ⌝ }
+        ensures { λ r. ⌜ r ≡ neighbour.right (self .size) i ⌝ }
+    {
+        if i + 1 == self.size { 0 } else { i + 1 }
+    }
+}
