@@ -54,9 +54,10 @@ impl Ring {
         if image.len() < count {
             return FreshAnswer::Refused(Refusal::Short);
         }
+        let at = 16 + 8 * home as usize;
         clear(image, count);
         image[0] = n as u8;
-        image[16 + 8 * home as usize + 1] = 1;
+        image[at + 1] = 1;
         FreshAnswer::Done
     }
 

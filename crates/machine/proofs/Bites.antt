@@ -6,15 +6,15 @@ use mathlib.Core.Bool.{Bool, true, false, _&&_}
 use mathlib.Core.List.{List, [], _∷_, _++_}
 use lib.ListN.{length, set, take, replicate}
 use lib.Dec.{eqb}
-use Rattle.machine.specs.declared.Verdict.{Verdict}
 use Rattle.machine.specs.declared.Verdict.the-variants.{Fine, Refused}
 use Rattle.machine.specs.declared.Refusal.the-variants as refusal
 use Rattle.machine.specs.Bytes.{bytes}
 use Rattle.machine.specs.Image.{sizeIn, stateIn}
 use Rattle.machine.specs.Sound.{headerRules, recordRulesIn, restRules}
 use Rattle.machine.specs.Tape.{blockBytes, padded}
-use Rattle.machine.specs.Refusals.{lengthVerdict, mostBlocks, mostEvents}
-use Rattle.machine.specs.Answers.{Answer, freshAnswer, stepAnswer, runAnswer, stoppedAnswer, writeAnswer, readAnswer}
+use Rattle.machine.specs.Refusals.{imageVerdict, lengthVerdict, mostBlocks, mostEvents}
+use Rattle.machine.specs.Answers.{Answer, answer, freshAnswer, freshImage, stepAnswer, stepImage}
+use Rattle.machine.specs.Answers.{runAnswer, runImage, runLedger, stoppedAnswer, writeAnswer, writeOutput, readAnswer, readOutput}
 use Rattle.machine.proofs.Computed.{rules}
 use Rattle.machine.proofs.Entries.{done, refused, event, copies, mayFill}
 
@@ -52,9 +52,9 @@ edge b m = record { breaks = b; meets = m }
 abbrev edgeCases : List Edge → List Case
 edgeCases [] = []
 edgeCases (x ∷ xs) =
-    case (stoppedAnswer (x .breaks)) (refused 4 0)
+    case (answer (imageVerdict (x .breaks)) []) (refused 4 0)
     ∷ case (done (brokenIn (x .breaks) ∷ [])) (done (1 ∷ []))
-    ∷ case (record { number = stoppedAnswer (x .meets) .number; values = brokenIn (x .meets) ∷ [] }) (done (0 ∷ []))
+    ∷ case (answer (imageVerdict (x .meets)) (brokenIn (x .meets) ∷ [])) (done (0 ∷ []))
     ∷ edgeCases xs
 
 -- an image of two processes: header bytes 1 to 4 and the message, then each record
@@ -277,11 +277,39 @@ writeCases =
     ∷ case (writeAnswer 2 (event 2 0 7) []) (refused 5 0)
     ∷ []
 
+-- ---- lent buffers
+
+-- a buffer afterwards, as the values of an answer
+abbrev left : List ℕ → Answer
+left buffer = done buffer
+
+abbrev spare : List ℕ
+spare = replicate 20 255
+
+-- a refused call leaves every byte, and a done one those beyond what it writes
+abbrev bufferCases : List Case
+bufferCases =
+    case (left (freshImage 2 2 spare)) (left spare)
+    ∷ case (left (freshImage 2 1 (replicate 33 255))) (left (without 0 0 0 ++ (255 ∷ [])))
+    ∷ case (left (stepImage unsound (event 1 0 7))) (left unsound)
+    ∷ case (left (stepImage ring (event 1 8 0))) (left ring)
+    ∷ case (left (stepImage (ring ++ spare) (event 1 1 0))) (left (altered 24 6 ++ spare))
+    ∷ case (left (runImage mayFill (block 0 1 (event 1 2 0)) (replicate 11 0))) (left mayFill)
+    ∷ case (left (runLedger mayFill (block 0 1 (event 1 2 0)) (replicate 11 255))) (left (replicate 11 255))
+    ∷ case (left (runLedger mayFill (block 0 1 (event 1 2 0)) spare))
+    (left ((0 ∷ 0 ∷ 0 ∷ 0 ∷ 1 ∷ 2 ∷ 0 ∷ 0 ∷ 7 ∷ 0 ∷ 0 ∷ 0 ∷ []) ++ replicate 8 255))
+    ∷ case (left (writeOutput 2 (event 1 0 7) spare)) (left spare)
+    ∷ case (left (writeOutput 2 (event 1 0 7) (replicate 512 255 ++ spare))) (left (block 0 1 (event 1 0 7) ++ spare))
+    ∷ case (left (readOutput 2 (block 0 1 (event 2 0 7)) spare)) (left spare)
+    ∷ case (left (readOutput 2 (block 0 1 (event 1 0 7)) spare)) (left (event 1 0 7 ++ replicate 12 255))
+    ∷ []
+
 -- ---- all of them
 
 abbrev pub cases : List Case
 cases =
-    edgeCases edges ++ (freshCases ++ (imageCases ++ (stepCases ++ (tapeCases ++ (runCases ++ writeCases)))))
+    edgeCases edges
+    ++ (freshCases ++ (imageCases ++ (stepCases ++ (tapeCases ++ (runCases ++ (writeCases ++ bufferCases))))))
 
 -- whether two answers are the same, number and values
 abbrev pub sameValues : List ℕ → List ℕ → Bool

@@ -7,8 +7,7 @@ use lib.Dec.{eqb, lit≤}
 use lib.Pow.{shr-shr}
 use Rattle.machine.specs.declared.Pair.{Pair}
 use Rattle.machine.specs.declared.Process.{Process}
-use Rattle.machine.specs.Bytes.{bit, bitOf}
-use Rattle.machine.specs.Fields.{processOf}
+use Rattle.machine.specs.Bytes.{bit}
 use Rattle.machine.specs.Image.{pairOf, pairBits, flagBits, requestBits, processFrom}
 
 pub bit-le : (b : Bool) → bit b ≤ 1

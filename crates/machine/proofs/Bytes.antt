@@ -7,7 +7,7 @@ use mathlib.Core.Logic.{_⊎_, inl, inr}
 use native.Mathlib.Omega.{arith}
 use native.Mathlib.Numerals.{add-one, towards-suc}
 use lib.ListN.{length, getD, set, take, drop, length-append, length-take, length-drop, List·getD-append, List·getD-eq-default, drop-of-length-le}
-use lib.Seq.{sets-eq, getD-append-add, getD-take, getD-drop, length-take-le, ext-getD, drop-cons, take-append-add, drop-append-add, drop-append-seam, take-append-seam, drop-drop, take-nil}
+use lib.Seq.{sets-eq, getD-append-add, getD-take, getD-drop, length-take-le, drop-cons, take-append-add, drop-append-add, drop-append-seam, take-append-seam, drop-drop, take-nil}
 use lib.Dec.{eqb, ltb}
 use lib.Pow.{shr-shr}
 use borrow.Author.Tests.{ltb-true, ltb-false, eqb-true, eqb-false, eq-eqb, ne-eqb}
@@ -61,15 +61,6 @@ number-4 s at =
     let three : at + 2 + 1 ≡ at + 3 = omega arith in
     rw (number-more s at 3, number-more s (at + 1) 2, two, number-more s (at + 2) 1, three, number-more s (at + 3) 0, number-0 s (at + 3 + 1))
     (omega arith)
-
-pub zeros-4 : (s : List ℕ) (at : ℕ)
-    → zeros s at 4
-    ≡ eqb (getD s at 0) 0 && eqb (getD s (at + 1) 0) 0 && eqb (getD s (at + 2) 0) 0 && eqb (getD s (at + 3) 0) 0
-zeros-4 s at =
-    let two : at + 1 + 1 ≡ at + 2 = omega arith in
-    let three : at + 2 + 1 ≡ at + 3 = omega arith in
-    rw (zeros-more s at 3, zeros-more s (at + 1) 2, two, zeros-more s (at + 2) 1, three, zeros-more s (at + 3) 0, zeros-0 s (at + 3 + 1))
-    (simp (and-true, and-assoc))
 
 pub zeros-3 : (s : List ℕ) (at : ℕ)
     → zeros s at 3 ≡ eqb (getD s at 0) 0 && eqb (getD s (at + 1) 0) 0 && eqb (getD s (at + 2) 0) 0

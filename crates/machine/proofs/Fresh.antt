@@ -1,25 +1,25 @@
 -- The fresh ring: its bytes as code writes them, and that it is sound. Assumes nothing.
-use Prim.Native.Nat.{ℕ, zero, suc, _+_, _*_, _^_, _≤_, _<_}
-use mathlib.Core.Path.{_≡_, refl, sym, ap, _∙_}
-use mathlib.Core.Bool.{Bool, true, false, _&&_}
-use mathlib.Core.List.{List, [], _∷_, _++_, append-assoc}
+use Prim.Native.Nat.{ℕ, zero, suc, _+_, _*_, _<_}
+use mathlib.Core.Path.{_≡_, refl, sym, _∙_}
+use mathlib.Core.Bool.{Bool, true, false}
+use mathlib.Core.List.{List, _++_}
 use native.Mathlib.Omega.{arith}
-use lib.ListN.{length, getD, set, take, drop, replicate, length-set, length-replicate, replicate-append-replicate}
-use lib.Seq.{set-append-left, getD-set-same}
-use lib.Dec.{eqb, leb, ltb, lit<}
+use lib.ListN.{length, set, drop, replicate, length-set, length-replicate, replicate-append-replicate}
+use lib.Seq.{set-append-left}
+use lib.Dec.{eqb, lit<}
 use lib.Count.{onesIn}
-use borrow.Author.Tests.{le-leb, lt-ltb, eqb-true}
+use borrow.Author.Tests.{eqb-true}
 use Rattle.machine.specs.declared.Process.{Process}
-use Rattle.machine.specs.declared.Verdict.the-variants.{Fine, Refused}
+use Rattle.machine.specs.declared.Verdict.the-variants.{Fine}
 use Rattle.machine.specs.Bytes.{bit, bytes, splice}
 use Rattle.machine.specs.Lists.{all}
 use Rattle.machine.specs.Ring.{imageLength, recordAt}
 use Rattle.machine.specs.Fields.{Status, full, empty, none, for, blank, withHave}
-use Rattle.machine.specs.Image.{State, headerBytes, processBytes, recordBytes, imageWith, sizeIn}
+use Rattle.machine.specs.Image.{headerBytes, processBytes, recordBytes, imageWith, sizeIn}
 use Rattle.machine.specs.Sound.{places, stageFits, stagesFit, markedSet, restFits, sound}
-use Rattle.machine.specs.Fresh.{freshEnvelope, freshState}
+use Rattle.machine.specs.Fresh.{freshState}
 use Rattle.machine.specs.Events.{processAt}
-use Rattle.machine.specs.Refusals.{roomVerdict, imageVerdict}
+use Rattle.machine.specs.Refusals.{imageVerdict}
 use Rattle.machine.specs.Answers.{freshVerdict, freshImage}
 use Rattle.machine.proofs.Lists.{all-at}
 use Rattle.machine.proofs.Refusals.{SizeFits, fresh-fine, image-whole}

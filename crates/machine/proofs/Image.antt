@@ -1,26 +1,18 @@
 -- Laws of the image: what is written is read back, and a record written is one element of the list replaced.
 -- An image is its header, its records and the further bytes, so a write is a splice into one of the three.
 -- Assumes nothing.
-use Prim.Native.Nat.{ℕ, zero, suc, _+_, _-_, _*_, _/_, _%_, _^_, _≤_, _<_}
-use mathlib.Core.Path.{_≡_, refl, sym, ap, ap₂, _∙_}
-use mathlib.Core.Bool.{Bool, true, false, cond}
+use Prim.Native.Nat.{ℕ, zero, suc, _+_, _*_, _≤_, _<_}
+use mathlib.Core.Path.{_≡_, refl, sym, ap, _∙_}
 use mathlib.Core.List.{List, [], _∷_, _++_, append-assoc}
 use native.Mathlib.Omega.{arith}
-use native.Mathlib.Numerals.{add-one}
-use lib.ListN.{length, getD, set, take, drop, length-append, length-set, List·getD-append}
-use lib.Seq.{getD-append-add, drop-append-add, drop-append-seam, take-append-seam, ext-getD, drop-drop, take-append-le, take-append-add}
-use lib.Dec.{eqb, lit≤}
-use lib.Pow.{shr-shr}
-use Rattle.machine.specs.declared.Pair.{Pair}
+use lib.ListN.{length, set, drop, length-append, length-set}
 use Rattle.machine.specs.declared.Envelope.{Envelope}
 use Rattle.machine.specs.declared.Process.{Process}
-use Rattle.machine.specs.Bytes.{bit, bitOf, part, littleEndian, number, bytes, splice}
+use Rattle.machine.specs.Bytes.{splice}
 use Rattle.machine.specs.Ring.{imageLength, recordAt}
-use Rattle.machine.specs.Fields.{processOf, blank}
-use Rattle.machine.specs.Image.{State, pairOf, envelopeIn, processFrom, processIn, processesIn, sizeIn, stateIn}
-use Rattle.machine.specs.Image.{pairBits, flagBits, requestBits, headerBytes, processBytes, recordBytes, imageBytes, imageWith, withProcess, withEnvelope}
-use Rattle.machine.specs.Events.{processAt}
-use Rattle.machine.proofs.Bytes.{length-bytes, littleEndian-bytes-4, length-splice, splice-right, splice-whole}
+use Rattle.machine.specs.Image.{State, sizeIn}
+use Rattle.machine.specs.Image.{headerBytes, processBytes, recordBytes, imageBytes, imageWith, withProcess, withEnvelope}
+use Rattle.machine.proofs.Bytes.{length-bytes, length-splice, splice-right, splice-whole}
 
 -- ---- lengths
 
@@ -59,6 +51,14 @@ image-pieces s st =
 pub length-written : (s : List ℕ) (st : State) → imageLength (length (st .processes)) ≤ length s → length (imageWith s st) ≡ length s
 unfolding imageWith
 length-written s st h = length-splice s 0 (imageBytes st) (omega (arith, length-image st))
+
+pub length-with-process : (s : List ℕ) (i : ℕ) (p : Process) → recordAt i + 8 ≤ length s → length (withProcess s i p) ≡ length s
+unfolding withProcess
+length-with-process s i p h = length-splice s (recordAt i) (processBytes p) (omega (arith, length-process p))
+
+pub length-with-envelope : (s : List ℕ) (e : Envelope) → 16 ≤ length s → length (withEnvelope s e) ≡ length s
+unfolding withEnvelope
+length-with-envelope s e h = length-splice s 0 (headerBytes (sizeIn s) e) (omega (arith, length-header (sizeIn s) e))
 
 -- ---- one record written is one element replaced
 

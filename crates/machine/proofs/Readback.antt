@@ -1,19 +1,17 @@
 -- Decode after encode: the state that was written is the state that is read. A record is read from its own eight bytes,
 -- and those are what was written. Assumes nothing.
-use Prim.Native.Nat.{ℕ, zero, suc, _+_, _*_, _^_, _≤_, _<_}
+use Prim.Native.Nat.{ℕ, zero, suc, _+_, _*_, _^_, _<_}
 use mathlib.Core.Path.{_≡_, refl, sym, ap, _∙_}
 use mathlib.Core.List.{List, [], _∷_, _++_, append-assoc}
 use native.Mathlib.Omega.{arith}
-use lib.ListN.{length, getD, take, drop, length-append}
+use lib.ListN.{length, getD, drop}
 use lib.Seq.{getD-drop, drop-append-add, drop-append-seam, drop-drop, take-at, ext-getD}
-use lib.Dec.{eqb}
-use Rattle.machine.specs.declared.Envelope.{Envelope}
 use Rattle.machine.specs.declared.Process.{Process}
-use Rattle.machine.specs.Bytes.{bit, part, littleEndian, number, bytes}
+use Rattle.machine.specs.Bytes.{bit, number, bytes}
 use Rattle.machine.specs.Lists.{tabulate}
 use Rattle.machine.specs.Ring.{imageLength, recordAt}
 use Rattle.machine.specs.Fields.{blank}
-use Rattle.machine.specs.Image.{State, pairOf, pairBits, flagBits, requestBits, envelopeIn, processFrom, processIn, processesIn, sizeIn, stateIn}
+use Rattle.machine.specs.Image.{State, pairBits, flagBits, requestBits, envelopeIn, processFrom, processIn, processesIn, stateIn}
 use Rattle.machine.specs.Image.{headerBytes, processBytes, recordBytes, imageWith}
 use Rattle.machine.specs.Events.{processAt}
 use Rattle.machine.proofs.Lists.{length-tabulate, getD-tabulate}

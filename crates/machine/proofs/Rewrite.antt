@@ -1,27 +1,25 @@
 -- Encode after decode: a sound image is what its own state writes. Each byte is in its range, so it is made of the bits
 -- that were read from it. Assumes nothing.
-use Prim.Native.Nat.{ℕ, zero, suc, _+_, _-_, _*_, _/_, _%_, _^_, _≤_, _<_}
+use Prim.Native.Nat.{ℕ, zero, suc, _+_, _*_, _/_, _%_, _≤_, _<_}
 use mathlib.Core.Path.{_≡_, refl, sym, ap, ap₂, _∙_}
-use mathlib.Core.Bool.{Bool, true, false, not, _&&_, _||_}
+use mathlib.Core.Bool.{true, _&&_}
 use mathlib.Core.List.{List, [], _∷_, _++_, append-assoc}
 use native.Mathlib.Omega.{arith}
 use native.Mathlib.Numerals.{add-one}
 use lib.ListN.{length, getD, take, drop, replicate, take-append-drop}
 use lib.Seq.{drop-cons, drop-drop, take-add}
-use lib.Dec.{eqb, leb, lit<}
-use borrow.Author.Tests.{leb-true, eqb-true}
-use Rattle.machine.specs.declared.Envelope.{Envelope}
-use Rattle.machine.specs.declared.Process.{Process}
-use Rattle.machine.specs.Bytes.{bit, part, number, bytes, zeros}
+use lib.Dec.{eqb}
+use borrow.Author.Tests.{eqb-true}
+use Rattle.machine.specs.Bytes.{part, number, bytes, zeros}
 use Rattle.machine.specs.Lists.{tabulate}
 use Rattle.machine.specs.Ring.{imageLength, recordAt}
 use Rattle.machine.specs.Fields.{blank}
-use Rattle.machine.specs.Image.{State, pairOf, pairBits, flagBits, requestBits, envelopeIn, processFrom, processIn, processesIn, sizeIn, stateIn}
+use Rattle.machine.specs.Image.{envelopeIn, processIn, processesIn, sizeIn, stateIn}
 use Rattle.machine.specs.Image.{headerBytes, processBytes, recordBytes, imageWith}
 use Rattle.machine.specs.Sound.{sound}
 use Rattle.machine.proofs.Lists.{and-first, and-second, length-tabulate, getD-tabulate}
 use Rattle.machine.proofs.Bytes.{Bytes, number-more, zeros-more, number-lt}
-use Rattle.machine.proofs.Sound.{HeaderFacts, RecordFacts, SoundFacts, sound-facts}
+use Rattle.machine.proofs.Sound.{HeaderFacts, RecordFacts, sound-facts}
 use Rattle.machine.proofs.Bits.{is-bit, markers-are, flags-are, requests-are}
 use Rattle.machine.proofs.Image.{image-pieces}
 use Rattle.machine.proofs.Readback.{InRange}

@@ -1,11 +1,11 @@
 -- Writing into a sound image: a record or an envelope written changes the state read by just that, and keeps the image
 -- the one that its state writes. Assumes nothing.
-use Prim.Native.Nat.{ℕ, _+_, _*_, _^_, _≤_, _<_}
-use mathlib.Core.Path.{_≡_, refl, sym, ap, _∙_, subst}
+use Prim.Native.Nat.{ℕ, _^_, _≤_, _<_}
+use mathlib.Core.Path.{_≡_, refl, sym, ap, _∙_}
 use mathlib.Core.List.{List}
 use mathlib.Core.Bool.{Bool, true, false}
 use native.Mathlib.Omega.{arith}
-use lib.ListN.{length, getD, set, length-set}
+use lib.ListN.{length, set, length-set}
 use lib.Seq.{getD-set-same, getD-set-other}
 use lib.Dec.{eqb}
 use borrow.Author.Tests.{eqb-true, eqb-false}
@@ -13,7 +13,7 @@ use Rattle.machine.specs.declared.Envelope.{Envelope}
 use Rattle.machine.specs.declared.Process.{Process}
 use Rattle.machine.specs.Ring.{imageLength}
 use Rattle.machine.specs.Fields.{blank}
-use Rattle.machine.specs.Image.{State, processIn, sizeIn, stateIn, imageWith, withProcess, withEnvelope}
+use Rattle.machine.specs.Image.{State, sizeIn, stateIn, imageWith, withProcess, withEnvelope}
 use Rattle.machine.specs.Sound.{sound}
 use Rattle.machine.specs.Events.{processAt}
 use Rattle.machine.proofs.Bytes.{Bytes}

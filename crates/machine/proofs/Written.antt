@@ -1,21 +1,20 @@
 -- Soundness of a state that was written: the bytes' own ranges and zeros come from the writing, so what is left are the
 -- rules on the state itself. Assumes nothing.
-use Prim.Native.Nat.{ℕ, zero, suc, _+_, _*_, _/_, _%_, _^_, _≤_, _<_}
-use mathlib.Core.Path.{_≡_, refl, sym, ap, ap₂, _∙_}
-use mathlib.Core.Bool.{Bool, true, false, not, _&&_, _||_, and-true, and-assoc}
+use Prim.Native.Nat.{ℕ, _+_, _^_, _<_}
+use mathlib.Core.Path.{_≡_, refl, ap, _∙_}
+use mathlib.Core.Bool.{Bool, true, false, _&&_, _||_, and-true}
 use mathlib.Core.List.{List, [], _∷_, _++_}
-use native.Mathlib.Omega.{arith}
-use lib.ListN.{length, getD, take, drop}
+use lib.ListN.{length, take, drop}
 use lib.Seq.{take-at, drop-at}
 use lib.Dec.{eqb, leb}
-use borrow.Author.Tests.{eqb-true, eqb-false, eq-eqb, ne-eqb, le-leb}
+use borrow.Author.Tests.{le-leb}
 use Rattle.machine.specs.declared.Envelope.{Envelope}
 use Rattle.machine.specs.declared.Process.{Process}
-use Rattle.machine.specs.Bytes.{bit, bytes, littleEndian, allZero, zeros}
-use Rattle.machine.specs.Lists.{every, all}
-use Rattle.machine.specs.Ring.{imageLength, recordAt}
+use Rattle.machine.specs.Bytes.{bit, bytes, allZero, zeros}
+use Rattle.machine.specs.Lists.{all}
+use Rattle.machine.specs.Ring.{recordAt}
 use Rattle.machine.specs.Fields.{full, empty, blank}
-use Rattle.machine.specs.Image.{State, pairBits, flagBits, processIn, processesIn, sizeIn, stateIn, processBytes, imageWith}
+use Rattle.machine.specs.Image.{State, pairBits, flagBits, processBytes, imageWith}
 use Rattle.machine.specs.Stages.{lastStage}
 use Rattle.machine.specs.Sound.{headerFits, markFits, noteFits, recordRulesIn, holds, recordsFit, restFits, sound}
 use Rattle.machine.specs.Events.{processAt}
@@ -23,7 +22,7 @@ use Rattle.machine.proofs.Lists.{every-same, every-all}
 use Rattle.machine.proofs.Bits.{pair-le, flags-le}
 use Rattle.machine.proofs.Bytes.{length-bytes, littleEndian-bytes-4, all-zero}
 use Rattle.machine.proofs.Image.{size-written}
-use Rattle.machine.proofs.Readback.{InRange, byte-here, following, record-stands, read-process, frontOf, afterMessage, header-stands, read-state}
+use Rattle.machine.proofs.Readback.{InRange, byte-here, following, record-stands, read-process, afterMessage, header-stands, read-state}
 
 -- ---- the rules on the state itself
 

@@ -1,14 +1,13 @@
 -- The six calls: for every input the whole answer, in document 01's own numbers and values, and every lent buffer as
 -- the call leaves it. The order of the tests is the paragraph under the table. Assumes nothing.
-use Prim.Native.Nat.{ℕ, _+_, _*_}
+use Prim.Native.Nat.{ℕ}
 use mathlib.Core.List.{List, [], _∷_}
 use lib.ListN.{length}
 use Rattle.machine.specs.declared.Verdict.{Verdict}
 use Rattle.machine.specs.declared.Verdict.the-variants.{Fine, Refused}
 use Rattle.machine.specs.declared.Outcome.{Outcome}
-use Rattle.machine.specs.declared.Counts.{Counts}
 use Rattle.machine.specs.Bytes.{bit, splice}
-use Rattle.machine.specs.Image.{State, sizeIn, stateIn, imageWith}
+use Rattle.machine.specs.Image.{sizeIn, stateIn, imageWith}
 use Rattle.machine.specs.Fresh.{freshState}
 use Rattle.machine.specs.Events.{Event, outcome, apply}
 use Rattle.machine.specs.Stopped.{stopped}

@@ -132,10 +132,11 @@ wait s next r =
     (cond (Bool·beq (r .envelope .full) s) (changed r (r .envelope) (withStage next (r .process))) (forward (mark r)))
     (pass (ask s r))
 
--- stage 5: clear for empty, forward; if the envelope left, the put ends
+-- stage 5, after its forward: if the envelope left, the put ends
 unfoldable pub endPut : Reaction → Reaction
 endPut r = cond (r .leaves) (ends Sent r) r
 
+-- by the stage that the put finds; stages 3, 4, 8 and 9 do no more
 unfoldable pub putAt : ℕ → Reaction → Reaction
 putAt stage r =
     cond (plain stage) (stroll r)
@@ -147,9 +148,13 @@ putAt stage r =
 
 -- ---- the events
 
--- codes 0 and 1, at stage 0: to the stage that tells of a send or of a receive, with the note
-unfoldable pub begin : ℕ → ℕ → Envelope → Process → Reaction
-begin stage note e p = cond (eqb (p .stage) 0) (becomes Moved e (withStage stage (withNote note p))) (idle e p)
+-- code 0: stage 0 becomes 1, and the note is the message
+unfoldable pub startPut : ℕ → Envelope → Process → Reaction
+startPut message e p = cond (eqb (p .stage) 0) (becomes Moved e (withStage 1 (withNote message p))) (idle e p)
+
+-- code 1: stage 0 becomes 6
+unfoldable pub startGet : Envelope → Process → Reaction
+startGet e p = cond (eqb (p .stage) 0) (becomes Moved e (withStage 6 p)) (idle e p)
 
 -- code 2, main works: stage 3 fills the envelope with the note, stage 8 empties it
 unfoldable pub work : Envelope → Process → Reaction
@@ -180,8 +185,8 @@ put e p = cond (p .news) (putAt (p .stage) (becomes Moved e (withNews false p)))
 -- the eight events by their code
 unfoldable pub react : ℕ → ℕ → Envelope → Process → Reaction
 react code message e p =
-    cond (eqb code 0) (begin 1 message e p)
-    (cond (eqb code 1) (begin 6 0 e p)
+    cond (eqb code 0) (startPut message e p)
+    (cond (eqb code 1) (startGet e p)
     (cond (eqb code 2) (work e p)
     (cond (eqb code 3) (signal e p)
     (cond (eqb code 4) (receive e p)
@@ -213,6 +218,7 @@ unfoldable pub place : List Process → ℕ → Reaction → List Process
 place l i r =
     change (change (set l i (r .process)) (left (length l) i) (requested (r .asks))) (right (length l) i) (arrived (r .leaves))
 
+-- an event at its process of a state: what it does there, its outcome, and the state after it
 unfoldable pub reaction : State → Event → Reaction
 reaction st v = react (v .code) (v .message) (st .envelope) (processAt (st .processes) (v .process))
 

@@ -1,7 +1,6 @@
 -- The image: document 01, "The image", header and process record. An image is read as a state, the envelope and the
 -- list of the processes, and a state is written as an image. Assumes nothing.
 use Prim.Native.Nat.{ℕ, _+_, _*_}
-use mathlib.Core.Bool.{Bool}
 use mathlib.Core.List.{List, [], _∷_, _++_}
 use lib.ListN.{length, getD}
 use lib.Dec.{eqb}

@@ -1,7 +1,7 @@
 -- Where a call is turned down: document 01's table, each row's condition exactly, its place, and the order of the
 -- tests of one input. The order between a call's inputs stands in Answers. Assumes nothing.
 use Prim.Native.Nat.{ℕ, zero, suc, _+_, _-_, _*_, _/_, _%_}
-use mathlib.Core.Bool.{Bool, true, false, not, _&&_, _||_}
+use mathlib.Core.Bool.{Bool, true, false, _&&_, _||_}
 use mathlib.Core.List.{List}
 use lib.ListN.{length, getD}
 use lib.Dec.{eqb, leb, ltb}
@@ -9,7 +9,7 @@ use Rattle.machine.specs.declared.Refusal.{Refusal}
 use Rattle.machine.specs.declared.Refusal.the-variants as refusal
 use Rattle.machine.specs.declared.Verdict.{Verdict}
 use Rattle.machine.specs.declared.Verdict.the-variants.{Fine, Refused}
-use Rattle.machine.specs.Bytes.{number, zeros}
+use Rattle.machine.specs.Bytes.{zeros}
 use Rattle.machine.specs.Ring.{sizeFits, imageLength}
 use Rattle.machine.specs.Image.{sizeIn}
 use Rattle.machine.specs.Sound.{sound}
@@ -130,13 +130,15 @@ blockFits s b =
 unfoldable pub numberVerdict : List ℕ → ℕ → Verdict
 numberVerdict s b = unless (blockFits s b) (refusal.Block b)
 
+-- the slots below the count are events
 unfoldable pub usedVerdict : ℕ → ℕ → List ℕ → ℕ → Verdict
 usedVerdict codes n s b =
     first (λ j. unless (eventFits codes n s (slotAt b j)) (refusal.Event (63 * b + j))) 0 (blockCount s b)
 
+-- the slots from the count on are zero
 unfoldable pub unusedVerdict : List ℕ → ℕ → Verdict
 unusedVerdict s b =
-    first (λ j. unless (zeros s (slotAt b j) 8) (refusal.Unused b)) (blockCount s b) (63 - blockCount s b)
+    unless (zeros s (slotAt b (blockCount s b)) (8 * (63 - blockCount s b))) (refusal.Unused b)
 
 unfoldable pub blockVerdict : ℕ → ℕ → List ℕ → ℕ → Verdict
 blockVerdict codes n s b =

@@ -1,12 +1,11 @@
 -- Soundness: document 01, "The image", its paragraph on ranges and zeros, in three parts: the bytes of the header, the
 -- bytes of the records, and the rest. Byte 0 and the length are the table's (Refusals). Assumes nothing.
 use Prim.Native.Nat.{ℕ, _+_, _*_}
-use mathlib.Core.Bool.{Bool, true, false, not, _&&_, _||_}
+use mathlib.Core.Bool.{Bool, true, not, _&&_, _||_}
 use mathlib.Core.List.{List, [], _∷_}
 use lib.ListN.{getD}
-use lib.Dec.{eqb, leb, ltb}
+use lib.Dec.{eqb, leb}
 use lib.Count.{onesIn}
-use Rattle.machine.specs.declared.Envelope.{Envelope}
 use Rattle.machine.specs.declared.Process.{Process}
 use Rattle.machine.specs.Bytes.{bit, zeros}
 use Rattle.machine.specs.Lists.{every, all}

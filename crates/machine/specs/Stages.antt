@@ -20,13 +20,6 @@ plain stage = eqb stage 0 || eqb stage 1 || eqb stage 6
 abbrev pub told : ℕ → Bool
 told stage = eqb stage 1 || eqb stage 4 || eqb stage 6 || eqb stage 9
 
--- a put, a get has started and not ended
-abbrev pub sending : ℕ → Bool
-sending = within 1 5
-
-abbrev pub receiving : ℕ → Bool
-receiving = within 6 10
-
 -- a note stands only here
 abbrev pub noted : ℕ → Bool
 noted = within 1 3

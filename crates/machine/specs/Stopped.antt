@@ -1,5 +1,4 @@
 -- Stopped: document 01, "The eight events", its last paragraph. Assumes nothing.
-use Prim.Native.Nat.{ℕ}
 use mathlib.Core.Bool.{Bool, true, false}
 use mathlib.Core.List.{[], _∷_}
 use Rattle.machine.specs.declared.Envelope.{Envelope}

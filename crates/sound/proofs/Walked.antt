@@ -1,11 +1,11 @@
 -- The walk over the records, step by step, and soundness from what it gathers. Assumes nothing.
-use Prim.Native.Nat.{ℕ, zero, suc, _+_, _*_, _%_, _^_, _≤_, _<_}
-use mathlib.Core.Path.{_≡_, refl, sym, ap, ap₂, _∙_}
+use Prim.Native.Nat.{ℕ, _+_, _*_, _%_, _^_, _≤_, _<_}
+use mathlib.Core.Path.{_≡_, _∙_}
 use mathlib.Core.Bool.{Bool, true, false, _&&_, _||_}
-use mathlib.Core.List.{List, []}
+use mathlib.Core.List.{List}
 use native.Mathlib.Omega.{arith}
 use native.Mathlib.Nat.{le-trans}
-use lib.ListN.{length, getD}
+use lib.ListN.{getD}
 use lib.Dec.{eqb, leb, lit<}
 use lib.Bits.{bitOr, or-shifted-r}
 use lib.Pow.{shl-exact, pow-mono}
@@ -19,7 +19,7 @@ use Rattle.machine.specs.Ring.{recordAt}
 use Rattle.machine.specs.Fields.{Status, full, empty}
 use Rattle.machine.specs.Image.{envelopeIn, processIn, processesIn, sizeIn, stateIn}
 use Rattle.machine.specs.Sound.{headerFits, markedSet, restFits, sound}
-use Rattle.machine.specs.Refusals.{unless, imageVerdict}
+use Rattle.machine.specs.Refusals.{imageVerdict}
 use Rattle.machine.proofs.Bytes.{zeros-3, zeros-number}
 use Rattle.machine.proofs.Walk.{processes-none, processes-more, length-processes, records-none, records-more, stages-none, stages-more}
 use Rattle.machine.proofs.Walk.{places-none, places-more, places-le, marked-none, marked-more, marked-lt, ones-64}

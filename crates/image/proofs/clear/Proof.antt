@@ -1,13 +1,12 @@
-use Rattle.image.proofs.Laws.{cleared-none, cleared-more}
-use Rattle.machine.specs.Bytes.{splice}
-use lib.ListN.{length, replicate, set, length-set}
-use native.Mathlib.Omega.{arith}
-use mathlib.Core.Path.{_≡_, refl, ap, _∙_}
+-- After i turns the first i bytes are zero and the others as they were. Assumes nothing.
 use Prim.Native.Nat.{_≤_, _-_}
+use mathlib.Core.Path.{_≡_, refl, ap, _∙_}
+use native.Mathlib.Omega.{arith}
+use lib.ListN.{length, replicate, set, length-set}
+use Rattle.machine.specs.Bytes.{splice}
+use Rattle.image.proofs.Laws.{cleared-none, cleared-more}
 use Rattle.image.proofs.clear.Statement.{statement}
 use Rattle.image.proofs.clear.Tie as tie
-use Rattle.image.proofs.clear.Reads as reads
-use Rattle.image.proofs.clear.Lts as lts
 
 abbrev Inv-loop : tie.InvT-loop
 Inv-loop bytes₀ count i₀ bytes i = (i ≤ count) × (length bytes ≡ length bytes₀) × (bytes ≡ splice bytes₀ 0 (replicate i 0))
@@ -15,34 +14,27 @@ Inv-loop bytes₀ count i₀ bytes i = (i ≤ count) × (length bytes ≡ length
 abbrev μ-loop : tie.MeasureT-loop
 μ-loop bytes₀ count i₀ bytes i = count - i
 
--- src/ring.rt:29:5
 loop-holds : tie.Need-loop-holds Inv-loop μ-loop
 loop-holds c = (omega arith, refl, cleared-none (c .args .bytes .now))
 
--- src/ring.rt:30:9
 slice-write-bytes : tie.Need-slice-write-bytes Inv-loop μ-loop
 slice-write-bytes c = omega arith
 
--- src/ring.rt:29:9
 add-i : tie.Need-add-i Inv-loop μ-loop
 add-i c = omega arith
 
--- src/ring.rt:29:5
 loop-less : tie.Need-loop-less Inv-loop μ-loop
 loop-less c = omega arith
 
--- src/ring.rt:29:5
 loop-again : tie.Need-loop-again Inv-loop μ-loop
 loop-again c =
     let l = c .before .loop in
     let s = c .before .before .args .bytes .now in
     (omega arith, length-set (l .bytes) (l .i) 0 ∙ l .inv .1, ap (λ t. set t (l .i) 0) (l .inv .2) ∙ cleared-more s (l .i) (omega arith))
 
--- src/ring.rt:25:1
 same-length : tie.Need-same-length Inv-loop μ-loop
 same-length c = c .before .loop .inv .1
 
--- src/ring.rt:25:1
 returns : tie.Need-returns Inv-loop μ-loop
 returns c =
     let l = c .before .loop in

@@ -1,40 +1,30 @@
+-- The zeros are tested byte by byte or as a number, which is 0 exactly when its bytes are. Assumes nothing.
 use native.Mathlib.Omega.{arith}
 use Rattle.sound.proofs.Walked.{header-read}
 use Rattle.sound.proofs.header_fits.Statement.{statement}
 use Rattle.sound.proofs.header_fits.Tie as tie
-use Rattle.sound.proofs.header_fits.Reads as reads
-use Rattle.sound.proofs.header_fits.Lts as lts
-use Rattle.record.proofs.byte.number_at.Reads as number-at-reads
 
--- src/sound.rt:113:18
 shared-slice-read-status : tie.Need-shared-slice-read-status
 shared-slice-read-status c = omega arith
 
--- src/sound.rt:114:20
 shared-slice-read-unnamed : tie.Need-shared-slice-read-unnamed
 shared-slice-read-unnamed c = omega arith
 
--- src/sound.rt:114:38
 shared-slice-read-unnamed-2 : tie.Need-shared-slice-read-unnamed-2
 shared-slice-read-unnamed-2 c = omega arith
 
--- src/sound.rt:114:56
 shared-slice-read-unnamed-3 : tie.Need-shared-slice-read-unnamed-3
 shared-slice-read-unnamed-3 c = omega arith
 
--- src/sound.rt:115:22
 number-at-requires : tie.Need-number-at-requires
 number-at-requires c κs = omega arith
 
--- src/sound.rt:116:17
 number-at-requires-2 : tie.Need-number-at-requires-2
 number-at-requires-2 c κs = omega arith
 
--- src/sound.rt:117:22
 shared-slice-read-result : tie.Need-shared-slice-read-result
 shared-slice-read-result c = omega arith
 
--- src/sound.rt:109:1
 returns : tie.Need-returns
 returns c =
     let a = c .before .before .before .before .before .before .before .before .args in

@@ -1,35 +1,24 @@
+-- Header, records and the rest are the rules' three parts; the ones that a machine counts are the set's members. Assumes nothing.
 use native.Mathlib.Omega.{arith}
 use Rattle.sound.proofs.Walked.{sound-walked}
 use Rattle.sound.proofs.is_sound.Statement.{statement}
 use Rattle.sound.proofs.is_sound.Tie as tie
-use Rattle.sound.proofs.is_sound.Reads as reads
-use Rattle.sound.proofs.is_sound.Lts as lts
-use Rattle.record.proofs.byte.wide32.Reads as wide32-reads
-use Rattle.record.proofs.header.envelope_at.Reads as envelope-at-reads
-use Rattle.sound.proofs.Walk.over.Reads as over-reads
-use Rattle.sound.proofs.header_fits.Reads as header-fits-reads
 
--- src/sound.rt:125:9
 envelope-at-requires : tie.Need-envelope-at-requires
 envelope-at-requires c κs = omega arith
 
--- src/sound.rt:126:9
 over-requires : tie.Need-over-requires
 over-requires c κs = omega arith
 
--- src/sound.rt:129:39
 wide32-requires : tie.Need-wide32-requires
 wide32-requires c κs = omega arith
 
--- src/sound.rt:130:40
 wide32-requires-2 : tie.Need-wide32-requires-2
 wide32-requires-2 c κs = omega arith
 
--- src/sound.rt:131:5
 header-fits-requires : tie.Need-header-fits-requires
 header-fits-requires c κs = omega arith
 
--- src/sound.rt:121:1
 returns : tie.Need-returns
 returns c =
     let walked = c .before .before .before .before .before .before .before .before in

@@ -1,85 +1,69 @@
+-- Each test that refuses is the table's row, with the buffer as it was; past them zeros, N and have at home are the
+-- fresh state's image. Assumes nothing.
 use Prim.Native.Nat.{_+_, _*_}
-use Rattle.image.proofs.Laws.{fresh-refused, fresh-done}
+use mathlib.Core.Path.{ap, _∙_}
+use native.Mathlib.Omega.{arith}
+use lib.ListN.{set, length-set}
+use borrow.Author.Needs.{needs}
 use Rattle.machine.proofs.Fresh.{fresh-stores}
 use Rattle.machine.proofs.Refusals.{SizeFits, fresh-too-few, fresh-too-many, fresh-no-home, fresh-short, fresh-whole}
 use Rattle.machine.specs.declared.Refusal.the-variants as refusal
-use lib.ListN.{set, length-set}
-use native.Mathlib.Omega.{arith}
-use mathlib.Core.Path.{ap, _∙_}
-use borrow.Author.Needs.{needs}
+use Rattle.image.proofs.Laws.{fresh-refused, fresh-done}
 use Rattle.image.proofs.Ring.fresh.Statement.{statement}
 use Rattle.image.proofs.Ring.fresh.Tie as tie
-use Rattle.image.proofs.Ring.fresh.Reads as reads
-use Rattle.image.proofs.Ring.fresh.Lts as lts
-use Rattle.image.proofs.clear.Reads as clear-reads
 
--- src/ring.rt:45:13
 returns : tie.Need-returns
 returns c =
     let a = c .before .before .args in
     fresh-refused (a .n) (a .home) (a .image .now) refusal.Size (fresh-too-few (a .n) (a .home) (a .image .now) (c .if1 .taken))
 
--- src/ring.rt:48:13
 returns-2 : tie.Need-returns-2
 returns-2 c =
     let a = c .before .before .before .args in
     fresh-refused (a .n) (a .home) (a .image .now) refusal.Size (fresh-too-many (a .n) (a .home) (a .image .now) (c .before .if1 .left) (c .if2 .taken))
 
--- src/ring.rt:51:13
 returns-3 : tie.Need-returns-3
 returns-3 c =
     let a = c .before .before .before .before .args in
     let size : SizeFits (a .n) = record { least = c .before .before .if1 .left; most = c .before .if2 .left } in
     fresh-refused (a .n) (a .home) (a .image .now) refusal.Home (fresh-no-home (a .n) (a .home) (a .image .now) size (c .if3 .taken))
 
--- src/ring.rt:53:26
 mul-count : tie.Need-mul-count
 mul-count c = omega arith
 
--- src/ring.rt:53:21
 add-count : tie.Need-add-count
 add-count c = omega arith
 
--- src/ring.rt:55:13
 returns-4 : tie.Need-returns-4
 returns-4 c =
     let a = c .before .before .before .before .before .args in
     let size : SizeFits (a .n) = record { least = c .before .before .before .if1 .left; most = c .before .before .if2 .left } in
     fresh-refused (a .n) (a .home) (a .image .now) refusal.Short (fresh-short (a .n) (a .home) (a .image .now) size (c .before .if3 .left) (c .if4 .taken))
 
--- src/ring.rt:57:9
+mul-at : tie.Need-mul-at
+mul-at c = omega arith
+
+add-at : tie.Need-add-at
+add-at c = omega arith
+
 clear-requires : tie.Need-clear-requires
 clear-requires c κs = omega arith
 
--- src/ring.rt:58:20
 cast-image : tie.Need-cast-image
 cast-image c = omega arith
 
--- src/ring.rt:58:9
 slice-write-image : tie.Need-slice-write-image
 slice-write-image c = omega arith
 
--- src/ring.rt:59:20
-mul-image : tie.Need-mul-image
-mul-image c = omega arith
-
--- src/ring.rt:59:15
 add-image : tie.Need-add-image
 add-image c = omega arith
 
--- src/ring.rt:59:15
-add-image-2 : tie.Need-add-image-2
-add-image-2 c = omega arith
-
--- src/ring.rt:59:9
 slice-write-image-2 : tie.Need-slice-write-image-2
 slice-write-image-2 c = simp length-set (omega arith)
 
--- src/ring.rt:40:5
 same-length : tie.Need-same-length
 same-length c = search needs
 
--- src/ring.rt:40:5
 returns-5 : tie.Need-returns-5
 returns-5 c =
     let tested = c .before .before .before .before in
@@ -100,12 +84,12 @@ fresh-spec =
     mul-count
     add-count
     returns-4
+    mul-at
+    add-at
     clear-requires
     cast-image
     slice-write-image
-    mul-image
     add-image
-    add-image-2
     slice-write-image-2
     same-length
     returns-5)

@@ -1,25 +1,19 @@
-use native.Mathlib.Omega.{arith}
+-- Below n the remainder goes by cases: 0 has n − 1 on its left, any other its predecessor. Assumes nothing.
 use mathlib.Core.Path.{sym}
-use Prim.Native.Nat.{_-_}
+use native.Mathlib.Omega.{arith}
 use Rattle.machine.proofs.Ring.{left-first, left-inner}
 use Rattle.image.proofs.Ring.left.Statement.{statement}
 use Rattle.image.proofs.Ring.left.Tie as tie
-use Rattle.image.proofs.Ring.left.Reads as reads
-use Rattle.image.proofs.Ring.left.Lts as lts
 
--- src/ring.rt:68:21
 sub-result : tie.Need-sub-result
 sub-result c = omega arith
 
--- src/ring.rt:68:44
 sub-result-2 : tie.Need-sub-result-2
 sub-result-2 c = omega arith
 
--- src/ring.rt:64:5
 returns : tie.Need-returns
 returns c = rw (c .before .if1 .taken) (sym (left-first (c .before .before .args .self .size) (omega arith)))
 
--- src/ring.rt:64:5
 returns-2 : tie.Need-returns-2
 returns-2 c = sym (left-inner (c .before .args .self .size) (c .before .args .i) (omega arith) (omega arith))
 

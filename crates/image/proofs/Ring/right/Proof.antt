@@ -1,24 +1,19 @@
-use native.Mathlib.Omega.{arith}
+-- Below n the remainder goes by cases: n − 1 has 0 on its right, any other its successor. Assumes nothing.
 use mathlib.Core.Path.{sym}
+use native.Mathlib.Omega.{arith}
 use Rattle.machine.proofs.Ring.{right-last, right-inner}
 use Rattle.image.proofs.Ring.right.Statement.{statement}
 use Rattle.image.proofs.Ring.right.Tie as tie
-use Rattle.image.proofs.Ring.right.Reads as reads
-use Rattle.image.proofs.Ring.right.Lts as lts
 
--- src/ring.rt:76:12
 add-if1 : tie.Need-add-if1
 add-if1 c = omega arith
 
--- src/ring.rt:76:44
 add-result : tie.Need-add-result
 add-result c = omega arith
 
--- src/ring.rt:72:5
 returns : tie.Need-returns
 returns c = sym (right-last (c .before .before .args .self .size) (c .before .before .args .i) (c .if1 .taken))
 
--- src/ring.rt:72:5
 returns-2 : tie.Need-returns-2
 returns-2 c = sym (right-inner (c .before .before .args .self .size) (c .before .before .args .i) (omega arith))
 

@@ -1,80 +1,60 @@
+-- The four bytes are summed as the law of a number of four bytes has them, and the sum fits. Assumes nothing.
 use native.Mathlib.Omega.{arith}
 use Rattle.machine.proofs.Bytes.{number-4}
 use Rattle.record.proofs.byte.number_at.Statement.{statement}
 use Rattle.record.proofs.byte.number_at.Tie as tie
-use Rattle.record.proofs.byte.number_at.Reads as reads
-use Rattle.record.proofs.byte.number_at.Lts as lts
-use Rattle.record.proofs.byte.wide32.Reads as wide32-reads
 
--- src/byte.rt:33:12
 shared-slice-read-wide32 : tie.Need-shared-slice-read-wide32
 shared-slice-read-wide32 c = omega arith
 
--- src/byte.rt:33:5
 wide32-requires : tie.Need-wide32-requires
 wide32-requires c κs = omega arith
 
--- src/byte.rt:34:30
 add-wide32 : tie.Need-add-wide32
 add-wide32 c = omega arith
 
--- src/byte.rt:34:24
 shared-slice-read-wide32-2 : tie.Need-shared-slice-read-wide32-2
 shared-slice-read-wide32-2 c = omega arith
 
--- src/byte.rt:34:17
 wide32-requires-2 : tie.Need-wide32-requires-2
 wide32-requires-2 c κs = omega arith
 
--- src/byte.rt:34:11
 mul-result : tie.Need-mul-result
 mul-result c = omega arith
 
--- src/byte.rt:33:5
 add-result : tie.Need-add-result
 add-result c = omega arith
 
--- src/byte.rt:35:32
 add-wide32-2 : tie.Need-add-wide32-2
 add-wide32-2 c = omega arith
 
--- src/byte.rt:35:26
 shared-slice-read-wide32-3 : tie.Need-shared-slice-read-wide32-3
 shared-slice-read-wide32-3 c = omega arith
 
--- src/byte.rt:35:19
 wide32-requires-3 : tie.Need-wide32-requires-3
 wide32-requires-3 c κs = omega arith
 
--- src/byte.rt:35:11
 mul-result-2 : tie.Need-mul-result-2
 mul-result-2 c = omega arith
 
--- src/byte.rt:33:5
 add-result-2 : tie.Need-add-result-2
 add-result-2 c = omega arith
 
--- src/byte.rt:36:35
 add-wide32-3 : tie.Need-add-wide32-3
 add-wide32-3 c = omega arith
 
--- src/byte.rt:36:29
 shared-slice-read-wide32-4 : tie.Need-shared-slice-read-wide32-4
 shared-slice-read-wide32-4 c = omega arith
 
--- src/byte.rt:36:22
 wide32-requires-4 : tie.Need-wide32-requires-4
 wide32-requires-4 c κs = omega arith
 
--- src/byte.rt:36:11
 mul-result-3 : tie.Need-mul-result-3
 mul-result-3 c = omega arith
 
--- src/byte.rt:33:5
 add-result-3 : tie.Need-add-result-3
 add-result-3 c = omega arith
 
--- src/byte.rt:29:1
 returns : tie.Need-returns
 returns c =
     let a = c .before .before .before .before .before .before .before .before .before .args in

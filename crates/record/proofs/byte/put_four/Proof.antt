@@ -1,44 +1,34 @@
-use lib.ListN.{length-set}
+-- Four stores in a row are one splice. Assumes nothing.
 use native.Mathlib.Omega.{arith}
+use lib.ListN.{length-set}
 use Rattle.machine.proofs.Bytes.{stores-4}
 use Rattle.record.proofs.byte.put_four.Statement.{statement}
 use Rattle.record.proofs.byte.put_four.Tie as tie
-use Rattle.record.proofs.byte.put_four.Reads as reads
-use Rattle.record.proofs.byte.put_four.Lts as lts
 
--- src/byte.rt:44:5
 slice-write-bytes : tie.Need-slice-write-bytes
 slice-write-bytes c = omega arith
 
--- src/byte.rt:45:11
 add-bytes : tie.Need-add-bytes
 add-bytes c = omega arith
 
--- src/byte.rt:45:5
 slice-write-bytes-2 : tie.Need-slice-write-bytes-2
 slice-write-bytes-2 c = simp length-set (omega arith)
 
--- src/byte.rt:46:11
 add-bytes-2 : tie.Need-add-bytes-2
 add-bytes-2 c = omega arith
 
--- src/byte.rt:46:5
 slice-write-bytes-3 : tie.Need-slice-write-bytes-3
 slice-write-bytes-3 c = simp length-set (omega arith)
 
--- src/byte.rt:47:11
 add-bytes-3 : tie.Need-add-bytes-3
 add-bytes-3 c = omega arith
 
--- src/byte.rt:47:5
 slice-write-bytes-4 : tie.Need-slice-write-bytes-4
 slice-write-bytes-4 c = simp length-set (omega arith)
 
--- src/byte.rt:40:1
 same-length : tie.Need-same-length
 same-length c = simp length-set
 
--- src/byte.rt:40:1
 returns : tie.Need-returns
 returns c =
     let a = c .args in

@@ -1,36 +1,27 @@
+-- A number's four bytes are its remainders and quotients by powers of 256. Assumes nothing.
 use native.Mathlib.Omega.{arith}
 use Rattle.machine.proofs.Bytes.{bytes-4}
 use Rattle.record.proofs.byte.put_number.Statement.{statement}
 use Rattle.record.proofs.byte.put_number.Tie as tie
-use Rattle.record.proofs.byte.put_number.Reads as reads
-use Rattle.record.proofs.byte.put_number.Lts as lts
-use Rattle.record.proofs.byte.put_four.Reads as put-four-reads
 
--- src/byte.rt:58:9
 cast-put-four : tie.Need-cast-put-four
 cast-put-four c = omega arith
 
--- src/byte.rt:59:9
 cast-put-four-2 : tie.Need-cast-put-four-2
 cast-put-four-2 c = omega arith
 
--- src/byte.rt:60:9
 cast-put-four-3 : tie.Need-cast-put-four-3
 cast-put-four-3 c = omega arith
 
--- src/byte.rt:61:9
 cast-put-four-4 : tie.Need-cast-put-four-4
 cast-put-four-4 c = omega arith
 
--- src/byte.rt:55:5
 put-four-requires : tie.Need-put-four-requires
 put-four-requires c κs = omega arith
 
--- src/byte.rt:51:1
 same-length : tie.Need-same-length
 same-length c = omega arith
 
--- src/byte.rt:51:1
 returns : tie.Need-returns
 returns c =
     let a = c .before .before .before .before .before .args in

@@ -1,32 +1,24 @@
+-- Each field is computed as the rule writes it; the message is the number that `number_at` gives. Assumes nothing.
 use native.Mathlib.Omega.{arith}
 use Rattle.machine.specs.Image.{envelopeIn}
 use Rattle.record.proofs.header.envelope_at.Statement.{statement}
 use Rattle.record.proofs.header.envelope_at.Tie as tie
-use Rattle.record.proofs.header.envelope_at.Reads as reads
-use Rattle.record.proofs.header.envelope_at.Lts as lts
-use Rattle.record.proofs.byte.number_at.Reads as number-at-reads
 
--- src/header.rt:21:19
 shared-slice-read-markers : tie.Need-shared-slice-read-markers
 shared-slice-read-markers c = omega arith
 
--- src/header.rt:23:15
 shared-slice-read-t4 : tie.Need-shared-slice-read-t4
 shared-slice-read-t4 c = omega arith
 
--- src/header.rt:29:19
 shared-slice-read-t15 : tie.Need-shared-slice-read-t15
 shared-slice-read-t15 c = omega arith
 
--- src/header.rt:30:20
 shared-slice-read-t17 : tie.Need-shared-slice-read-t17
 shared-slice-read-t17 c = omega arith
 
--- src/header.rt:32:18
 number-at-requires : tie.Need-number-at-requires
 number-at-requires c κs = omega arith
 
--- src/header.rt:17:1
 returns : tie.Need-returns
 unfolding envelopeIn
 returns c = simp (c .number-at .ensures)

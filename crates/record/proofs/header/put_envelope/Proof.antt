@@ -1,47 +1,33 @@
+-- Four splices of four bytes, one after the other, are the header's one. Assumes nothing.
 use native.Mathlib.Omega.{arith}
 use Rattle.record.proofs.Laws.{envelope-stores}
 use Rattle.record.proofs.header.put_envelope.Statement.{statement}
 use Rattle.record.proofs.header.put_envelope.Tie as tie
-use Rattle.record.proofs.header.put_envelope.Reads as reads
-use Rattle.record.proofs.header.put_envelope.Lts as lts
-use Rattle.record.proofs.byte.digit.Reads as digit-reads
-use Rattle.record.proofs.byte.put_four.Reads as put-four-reads
-use Rattle.record.proofs.byte.put_number.Reads as put-number-reads
-use Rattle.record.proofs.process.pair_bits.Reads as pair-bits-reads
 
--- src/header.rt:42:13
 slice-read-n : tie.Need-slice-read-n
 slice-read-n c = omega arith
 
--- src/header.rt:43:27
 digit-requires : tie.Need-digit-requires
 digit-requires c κs = omega arith
 
--- src/header.rt:43:42
 pair-bits-requires : tie.Need-pair-bits-requires
 pair-bits-requires c κs = omega arith
 
--- src/header.rt:43:5
 put-four-requires : tie.Need-put-four-requires
 put-four-requires c κs = omega arith
 
--- src/header.rt:44:5
 put-four-requires-2 : tie.Need-put-four-requires-2
 put-four-requires-2 c κs = omega arith
 
--- src/header.rt:45:5
 put-number-requires : tie.Need-put-number-requires
 put-number-requires c κs = omega arith
 
--- src/header.rt:46:5
 put-four-requires-3 : tie.Need-put-four-requires-3
 put-four-requires-3 c κs = omega arith
 
--- src/header.rt:37:1
 same-length : tie.Need-same-length
 same-length c = omega arith
 
--- src/header.rt:37:1
 returns : tie.Need-returns
 returns c =
     let third = c .before .before .before .before .before .before in

@@ -1,47 +1,33 @@
+-- The first four bytes and the note are two splices one after the other, which are one. Assumes nothing.
 use native.Mathlib.Omega.{arith}
 use Rattle.record.proofs.Laws.{process-stores}
 use Rattle.record.proofs.process.put_process.Statement.{statement}
 use Rattle.record.proofs.process.put_process.Tie as tie
-use Rattle.record.proofs.process.put_process.Reads as reads
-use Rattle.record.proofs.process.put_process.Lts as lts
-use Rattle.record.proofs.byte.put_four.Reads as put-four-reads
-use Rattle.record.proofs.byte.put_number.Reads as put-number-reads
-use Rattle.record.proofs.process.flag_bits.Reads as flag-bits-reads
-use Rattle.record.proofs.process.request_bits.Reads as request-bits-reads
 
--- src/record.rt:71:19
 mul-at : tie.Need-mul-at
 mul-at c = omega arith
 
--- src/record.rt:71:14
 add-at : tie.Need-add-at
 add-at c = omega arith
 
--- src/record.rt:73:34
 flag-bits-requires : tie.Need-flag-bits-requires
 flag-bits-requires c κs = omega arith
 
--- src/record.rt:73:48
 request-bits-requires : tie.Need-request-bits-requires
 request-bits-requires c κs = omega arith
 
--- src/record.rt:73:5
 put-four-requires : tie.Need-put-four-requires
 put-four-requires c κs = omega arith
 
--- src/record.rt:74:23
 add-put-number : tie.Need-add-put-number
 add-put-number c = omega arith
 
--- src/record.rt:74:5
 put-number-requires : tie.Need-put-number-requires
 put-number-requires c κs = omega arith
 
--- src/record.rt:67:1
 same-length : tie.Need-same-length
 same-length c = omega arith
 
--- src/record.rt:67:1
 returns : tie.Need-returns
 returns c =
     let wrote = c .before .before .before .before .before .before in

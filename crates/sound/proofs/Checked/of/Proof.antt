@@ -1,53 +1,42 @@
-use Rattle.sound.proofs.Walked.{checked-refused, checked-done}
+-- The tests come in document 01's order, and each way out is one way through the rule. Assumes nothing.
+use mathlib.Core.Path.{_∙_}
+use native.Mathlib.Omega.{arith}
 use Rattle.machine.proofs.Refusals.{SizeFits, image-under-16, image-too-few, image-too-many, image-short, image-whole}
 use Rattle.machine.specs.Image.{sizeIn}
 use Rattle.machine.specs.declared.Refusal.the-variants as refusal
-use mathlib.Core.Path.{sym, _∙_}
-use native.Mathlib.Omega.{arith}
+use Rattle.sound.proofs.Walked.{checked-refused, checked-done}
 use Rattle.sound.proofs.Checked.of.Statement.{statement}
 use Rattle.sound.proofs.Checked.of.Tie as tie
-use Rattle.sound.proofs.Checked.of.Reads as reads
-use Rattle.sound.proofs.Checked.of.Lts as lts
-use Rattle.record.proofs.byte.wide.Reads as wide-reads
-use Rattle.sound.proofs.is_sound.Reads as is-sound-reads
 
--- src/sound.rt:140:13
 returns : tie.Need-returns
 returns c =
     let s = c .before .before .args .image .now in
     checked-refused s refusal.Short (image-under-16 s (c .if1 .taken))
 
--- src/sound.rt:142:22
 shared-slice-read-wide : tie.Need-shared-slice-read-wide
 shared-slice-read-wide c = omega arith
 
--- src/sound.rt:142:13
 wide-requires : tie.Need-wide-requires
 wide-requires c κs = omega arith
 
--- src/sound.rt:144:13
 returns-2 : tie.Need-returns-2
 returns-2 c =
     let n = c .before .wide .ensures .0 in
     let s = c .before .before .before .before .before .args .image .now in
     checked-refused s refusal.Unsound (image-too-few s (omega arith) (omega arith))
 
--- src/sound.rt:147:13
 returns-3 : tie.Need-returns-3
 returns-3 c =
     let n = c .before .before .wide .ensures .0 in
     let s = c .before .before .before .before .before .before .args .image .now in
     checked-refused s refusal.Unsound (image-too-many s (omega arith) (omega arith) (omega arith))
 
--- src/sound.rt:149:31
 mul-if4 : tie.Need-mul-if4
 mul-if4 c = omega arith
 
--- src/sound.rt:149:26
 add-if4 : tie.Need-add-if4
 add-if4 c = omega arith
 
--- src/sound.rt:150:13
 returns-4 : tie.Need-returns-4
 returns-4 c =
     let n = c .before .before .before .wide .ensures .0 in
@@ -55,11 +44,9 @@ returns-4 c =
     let size : SizeFits (sizeIn s) = record { least = omega arith; most = omega arith } in
     checked-refused s refusal.Short (image-short s (omega arith) size (omega arith))
 
--- src/sound.rt:152:12
 is-sound-requires : tie.Need-is-sound-requires
 is-sound-requires c κs = omega arith
 
--- src/sound.rt:136:5
 returns-5 : tie.Need-returns-5
 returns-5 c =
     let n = c .before .before .before .before .before .wide .ensures .0 in
@@ -67,7 +54,6 @@ returns-5 c =
     let size : SizeFits (sizeIn s) = record { least = omega arith; most = omega arith } in
     checked-done s n (image-whole s (omega arith) size (omega arith) ∙ rw (← c .before .is-sound .ensures, c .if5 .taken))
 
--- src/sound.rt:136:5
 returns-6 : tie.Need-returns-6
 returns-6 c =
     let n = c .before .before .before .before .before .wide .ensures .0 in

@@ -1,47 +1,33 @@
+-- Each field is the rule's own, computed from what the functions called ensure. Assumes nothing.
 use native.Mathlib.Omega.{arith}
 use Rattle.sound.specs.Walk.{walkedOn}
 use Rattle.sound.proofs.Walk.on.Statement.{statement}
 use Rattle.sound.proofs.Walk.on.Tie as tie
-use Rattle.sound.proofs.Walk.on.Reads as reads
-use Rattle.sound.proofs.Walk.on.Lts as lts
-use Rattle.record.proofs.byte.digit.Reads as digit-reads
-use Rattle.sound.proofs.record_fits.Reads as record-fits-reads
-use Rattle.sound.proofs.stage_fits.Reads as stage-fits-reads
-use Rattle.sound.proofs.with_member.Reads as with-member-reads
 
--- src/sound.rt:79:31
 record-fits-requires : tie.Need-record-fits-requires
 record-fits-requires c κs = omega arith
 
--- src/sound.rt:80:35
 stage-fits-requires : tie.Need-stage-fits-requires
 stage-fits-requires c κs = omega arith
 
--- src/sound.rt:81:35
 digit-requires : tie.Need-digit-requires
 digit-requires c κs = omega arith
 
--- src/sound.rt:81:21
 add-t12 : tie.Need-add-t12
 add-t12 c = omega arith
 
--- src/sound.rt:81:51
 digit-requires-2 : tie.Need-digit-requires-2
 digit-requires-2 c κs = omega arith
 
--- src/sound.rt:81:21
 add-t14 : tie.Need-add-t14
 add-t14 c = omega arith
 
--- src/sound.rt:82:19
 with-member-requires : tie.Need-with-member-requires
 with-member-requires c κs = omega arith
 
--- src/sound.rt:83:20
 with-member-requires-2 : tie.Need-with-member-requires-2
 with-member-requires-2 c κs = omega arith
 
--- src/sound.rt:74:5
 returns : tie.Need-returns
 unfolding walkedOn
 returns c =
