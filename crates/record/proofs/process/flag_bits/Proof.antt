@@ -1,0 +1,32 @@
+-- Three digits, each at most 1. Assumes nothing.
+use Prim.{tt}
+use native.Mathlib.Omega.{arith}
+use Rattle.record.proofs.process.flag_bits.Statement.{statement}
+use Rattle.record.proofs.process.flag_bits.Tie as tie
+
+digit-requires : tie.Need-digit-requires
+digit-requires c κs = tt
+
+digit-requires-2 : tie.Need-digit-requires-2
+digit-requires-2 c κs = tt
+
+mul-result : tie.Need-mul-result
+mul-result c = omega arith
+
+add-result : tie.Need-add-result
+add-result c = omega arith
+
+digit-requires-3 : tie.Need-digit-requires-3
+digit-requires-3 c κs = tt
+
+mul-result-2 : tie.Need-mul-result-2
+mul-result-2 c = omega arith
+
+add-result-2 : tie.Need-add-result-2
+add-result-2 c = omega arith
+
+returns : tie.Need-returns
+returns c = omega arith
+
+pub flag-bits-spec : {M : Type 1} → statement M
+flag-bits-spec = tie.close (tie.spec digit-requires digit-requires-2 mul-result add-result digit-requires-3 mul-result-2 add-result-2 returns)
