@@ -18,14 +18,21 @@ pub cleared-none : (s : List ℕ) → s ≡ splice s 0 (replicate 0 0)
 unfolding splice
 cleared-none s = refl
 
-pub cleared-more : (s : List ℕ) (i : ℕ) → i < length s → set (splice s 0 (replicate i 0)) i 0 ≡ splice s 0 (replicate (i + 1) 0)
+pub cleared-more : (s : List ℕ) (i : ℕ) → i < length s
+    → set (splice s 0 (replicate i 0)) i 0 ≡ splice s 0 (replicate (i + 1) 0)
 unfolding splice
 cleared-more s i h =
     let nothing : List ℕ = replicate i 0 in
     let long : length nothing ≡ i = length-replicate {A = ℕ} i 0 in
     let here : 0 + length nothing ≡ i = omega arith in
     let next : 0 + length (replicate {A = ℕ} (i + 1) 0) ≡ suc i = omega (arith, length-replicate {A = ℕ} (i + 1) 0) in
-    rw (here, drop-cons s i 0 h, set-at nothing (getD s i 0) (drop (suc i) s) 0 i long, next, ← replicate-append-replicate {A = ℕ} i 1 0)
+    rw (
+      here,
+      drop-cons s i 0 h,
+      set-at nothing (getD s i 0) (drop (suc i) s) 0 i long,
+      next,
+      ← replicate-append-replicate {A = ℕ} i 1 0,
+    )
     (sym (append-assoc nothing (0 ∷ []) (drop (suc i) s)))
 
 -- ---- the fresh ring call: refused, and done

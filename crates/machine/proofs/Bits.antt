@@ -28,7 +28,8 @@ pub pair-le : (q : Pair) → pairBits q ≤ 3
 pair-le q = omega (arith, bit-le (q .full), bit-le (q .empty))
 
 -- two bits of a byte that holds a pair there
-pub pair-is : (q : Pair) (byte k : ℕ) → byte / 2 ^ k % 2 ≡ bit (q .full) → byte / 2 ^ (k + 1) % 2 ≡ bit (q .empty) → pairOf byte k ≡ q
+pub pair-is : (q : Pair) (byte k : ℕ) → byte / 2 ^ k % 2 ≡ bit (q .full) → byte / 2 ^ (k + 1) % 2 ≡ bit (q .empty)
+    → pairOf byte k ≡ q
 pair-is q byte k e f = simp (bit-is (q .full) (byte / 2 ^ k % 2) e, bit-is (q .empty) (byte / 2 ^ (k + 1) % 2) f)
 
 pub flags-le : (p : Process) → flagBits p ≤ 7
@@ -89,7 +90,11 @@ requests-sum x h =
 module _ (stage flags requests note : ℕ) where
   pub flags-are : flags ≤ 7 → flagBits (processFrom stage flags requests note) ≡ flags
   flags-are h =
-      simp (is-bit (flags / 1 % 2) (omega arith), is-bit (flags / 2 % 2) (omega arith), is-bit (flags / 4 % 2) (omega arith))
+      simp (
+        is-bit (flags / 1 % 2) (omega arith),
+        is-bit (flags / 2 % 2) (omega arith),
+        is-bit (flags / 4 % 2) (omega arith),
+      )
       (flags-sum flags h)
 
   pub requests-are : requests < 256 → requestBits (processFrom stage flags requests note) ≡ requests

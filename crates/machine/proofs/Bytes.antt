@@ -6,8 +6,10 @@ use mathlib.Core.List.{List, [], _∷_, _++_, append-assoc}
 use mathlib.Core.Logic.{_⊎_, inl, inr}
 use native.Mathlib.Omega.{arith}
 use native.Mathlib.Numerals.{add-one, towards-suc}
-use lib.ListN.{length, getD, set, take, drop, length-append, length-take, length-drop, List·getD-append, List·getD-eq-default, drop-of-length-le}
-use lib.Seq.{sets-eq, getD-append-add, getD-take, getD-drop, length-take-le, drop-cons, take-append-add, drop-append-add, drop-append-seam, take-append-seam, drop-drop, take-nil}
+use lib.ListN.{length, getD, set, take, drop, length-append, length-take, length-drop, List·getD-append}
+use lib.ListN.{List·getD-eq-default, drop-of-length-le}
+use lib.Seq.{sets-eq, getD-append-add, getD-take, getD-drop, length-take-le, drop-cons, take-append-add}
+use lib.Seq.{drop-append-add, drop-append-seam, take-append-seam, drop-drop, take-nil}
 use lib.Dec.{eqb, ltb}
 use lib.Pow.{shr-shr}
 use borrow.Author.Tests.{ltb-true, ltb-false, eqb-true, eqb-false, eq-eqb, ne-eqb}
@@ -32,7 +34,8 @@ pub number-more : (s : List ℕ) (at width : ℕ) → number s at (suc width) �
 unfolding number littleEndian
 number-more s at width = go (lt-or-ge at (length s))
   where
-    go : (at < length s) ⊎ (length s ≤ at) → littleEndian (part s at (suc width)) ≡ getD s at 0 + 256 * littleEndian (part s (at + 1) width)
+    go : (at < length s) ⊎ (length s ≤ at)
+        → littleEndian (part s at (suc width)) ≡ getD s at 0 + 256 * littleEndian (part s (at + 1) width)
     go (inl h) = rw (drop-cons s at 0 h, next-part s at width)
     go (inr h) = rw (no-part s at (suc width) h, no-part s (at + 1) width (omega arith), List·getD-eq-default s 0 h)
 
@@ -40,7 +43,8 @@ pub zeros-more : (s : List ℕ) (at width : ℕ) → zeros s at (suc width) ≡ 
 unfolding zeros allZero
 zeros-more s at width = go (lt-or-ge at (length s))
   where
-    go : (at < length s) ⊎ (length s ≤ at) → allZero (part s at (suc width)) ≡ eqb (getD s at 0) 0 && allZero (part s (at + 1) width)
+    go : (at < length s) ⊎ (length s ≤ at)
+        → allZero (part s at (suc width)) ≡ eqb (getD s at 0) 0 && allZero (part s (at + 1) width)
     go (inl h) = rw (drop-cons s at 0 h, next-part s at width)
     go (inr h) = rw (no-part s at (suc width) h, no-part s (at + 1) width (omega arith), List·getD-eq-default s 0 h)
 
@@ -59,7 +63,15 @@ pub number-4 : (s : List ℕ) (at : ℕ)
 number-4 s at =
     let two : at + 1 + 1 ≡ at + 2 = omega arith in
     let three : at + 2 + 1 ≡ at + 3 = omega arith in
-    rw (number-more s at 3, number-more s (at + 1) 2, two, number-more s (at + 2) 1, three, number-more s (at + 3) 0, number-0 s (at + 3 + 1))
+    rw (
+      number-more s at 3,
+      number-more s (at + 1) 2,
+      two,
+      number-more s (at + 2) 1,
+      three,
+      number-more s (at + 3) 0,
+      number-0 s (at + 3 + 1),
+    )
     (omega arith)
 
 pub zeros-3 : (s : List ℕ) (at : ℕ)
@@ -128,7 +140,11 @@ module _ (s : List ℕ) (at : ℕ) (bs : List ℕ) (fits : at + length bs ≤ le
   splice-in k h =
       let e : length (take at s) ≡ at = length-take-le at s (omega arith) in
       let f : at + k ≡ length (take at s) + k = omega arith in
-      rw (f, getD-append-add (take at s) (bs ++ drop (at + length bs) s) k 0, List·getD-append bs (drop (at + length bs) s) 0 k h)
+      rw (
+        f,
+        getD-append-add (take at s) (bs ++ drop (at + length bs) s) k 0,
+        List·getD-append bs (drop (at + length bs) s) 0 k h,
+      )
 
   pub splice-before : (j : ℕ) → j < at → getD (splice s at bs) j 0 ≡ getD s j 0
   unfolding splice
@@ -155,7 +171,12 @@ pub splice-right : (a b : List ℕ) (k : ℕ) (bs : List ℕ) → splice (a ++ b
 unfolding splice
 splice-right a b k bs =
     let e : length a + k + length bs ≡ length a + (k + length bs) = omega arith in
-    rw (take-append-add a b k, e, drop-append-add a b (k + length bs), append-assoc a (take k b) (bs ++ drop (k + length bs) b))
+    rw (
+      take-append-add a b k,
+      e,
+      drop-append-add a b (k + length bs),
+      append-assoc a (take k b) (bs ++ drop (k + length bs) b),
+    )
 
 -- over the whole of the first of two lists
 pub splice-whole : (a b bs : List ℕ) → length bs ≡ length a → splice (a ++ b) 0 bs ≡ bs ++ b
@@ -165,7 +186,8 @@ splice-whole a b bs e =
     rw (f, drop-append-seam a b)
 
 -- one after the other
-pub splice-next : (s : List ℕ) (at : ℕ) (a b : List ℕ) → at ≤ length s → splice (splice s at a) (at + length a) b ≡ splice s at (a ++ b)
+pub splice-next : (s : List ℕ) (at : ℕ) (a b : List ℕ) → at ≤ length s
+    → splice (splice s at a) (at + length a) b ≡ splice s at (a ++ b)
 unfolding splice
 splice-next s at a b h =
     let long : length (take at s) ≡ at = length-take-le at s h in

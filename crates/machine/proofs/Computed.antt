@@ -1,22 +1,82 @@
--- Every definition of the rules at once, for theorems that the checker computes: they say `unfolding rules`.
--- Assumes nothing.
+-- Every definition of the rules at once, for theorems that the checker computes: they say `unfolding rules`. The values
+-- here mean nothing; each definition only gathers the names on its `unfolding` line. Assumes nothing.
 use mathlib.Core.Bool.{Bool, true}
 use lib.Count.{onesIn}
 use Rattle.machine.specs.Bytes.{littleEndian, number, bytes, allZero, zeros, splice}
 use Rattle.machine.specs.Lists.{tabulate, every, all, join}
-use Rattle.machine.specs.Image.{envelopeIn, processIn, processesIn, stateIn, headerBytes, processBytes, recordBytes, imageBytes, imageWith}
+use Rattle.machine.specs.Image.{envelopeIn, processIn, processesIn, stateIn, headerBytes, processBytes}
+use Rattle.machine.specs.Image.{recordBytes, imageBytes, imageWith}
 use Rattle.machine.specs.Sound.{headerFits, recordsFit, places, stagesFit, markedSet, restFits, sound}
 use Rattle.machine.specs.Fresh.{freshState}
-use Rattle.machine.specs.Events.{ask, passFor, pass, markFor, mark, unmark, clear, wanted, leave, heeding, forward, ends, stroll, wait, endPut, putAt}
-use Rattle.machine.specs.Events.{startPut, startGet, work, signal, receive, hear, put, react, change, place, reaction, outcome, apply}
+use Rattle.machine.specs.Events.{ask, passFor, pass, markFor, mark, unmark, clear, wanted, leave, heeding}
+use Rattle.machine.specs.Events.{forward, ends, stroll, wait, endPut, putAt}
+use Rattle.machine.specs.Events.{startPut, startGet, work, signal, receive, hear, put, react, change, place}
+use Rattle.machine.specs.Events.{reaction, outcome, apply}
 use Rattle.machine.specs.Stopped.{quiet, stopped}
 use Rattle.machine.specs.Run.{ledgerRecord, ledgerEntry, ledgerFrom, counted, countsFrom, after}
-use Rattle.machine.specs.Tape.{eventIn, eventsIn, words, checkFrom, covered, usedSlots, listOf, blockBytes, slotsFor, padded, blockFor, tapeOf}
-use Rattle.machine.specs.Refusals.{first, sizeVerdict, homeVerdict, roomVerdict, imageVerdict, eventFits, eventVerdict, lengthVerdict, listVerdict}
-use Rattle.machine.specs.Refusals.{checkVerdict, blockFits, numberVerdict, usedVerdict, unusedVerdict, blockVerdict, tapeVerdict, outputVerdict}
-use Rattle.machine.specs.Answers.{freshVerdict, freshAnswer, freshImage, stepVerdict, stepAnswer, stepImage, runEvents, runRecords, runVerdict, runAnswer, runImage, runLedger}
-use Rattle.machine.specs.Answers.{stoppedAnswer, writeVerdict, writeAnswer, writeOutput, readVerdict, readAnswer, readOutput}
+use Rattle.machine.specs.Tape.{eventIn, eventsIn, words, checkFrom, covered, usedSlots, listOf, blockBytes}
+use Rattle.machine.specs.Tape.{slotsFor, padded, blockFor, tapeOf}
+use Rattle.machine.specs.Refusals.{first, sizeVerdict, homeVerdict, roomVerdict, imageVerdict, eventFits}
+use Rattle.machine.specs.Refusals.{eventVerdict, lengthVerdict, listVerdict}
+use Rattle.machine.specs.Refusals.{checkVerdict, blockFits, numberVerdict, usedVerdict, unusedVerdict}
+use Rattle.machine.specs.Refusals.{blockVerdict, tapeVerdict, outputVerdict}
+use Rattle.machine.specs.Answers.{freshVerdict, freshAnswer, freshImage, stepVerdict, stepAnswer, stepImage}
+use Rattle.machine.specs.Answers.{stoppedAnswer}
+use Rattle.machine.specs.Answers.{runEvents, runRecords, runVerdict, runAnswer, runImage, runLedger}
+use Rattle.machine.specs.Answers.{writeVerdict, writeAnswer, writeOutput, readVerdict, readAnswer, readOutput}
+
+unfoldable pub ofBytes : Bool
+unfolding littleEndian number bytes allZero zeros splice
+ofBytes = true
+
+unfoldable pub ofLists : Bool
+unfolding tabulate every all join
+ofLists = true
+
+unfoldable pub ofImage : Bool
+unfolding envelopeIn processIn processesIn stateIn headerBytes processBytes recordBytes imageBytes imageWith
+ofImage = true
+
+unfoldable pub ofSound : Bool
+unfolding onesIn freshState headerFits recordsFit places stagesFit markedSet restFits sound
+ofSound = true
+
+unfoldable pub ofPut : Bool
+unfolding ask passFor pass markFor mark unmark clear wanted leave heeding forward ends stroll wait endPut putAt
+ofPut = true
+
+unfoldable pub ofEvents : Bool
+unfolding ofPut startPut startGet work signal receive hear put react change place reaction outcome apply quiet stopped
+ofEvents = true
+
+unfoldable pub ofRun : Bool
+unfolding ledgerRecord ledgerEntry ledgerFrom counted countsFrom after
+ofRun = true
+
+unfoldable pub ofTape : Bool
+unfolding eventIn eventsIn words checkFrom covered usedSlots listOf blockBytes slotsFor padded blockFor tapeOf
+ofTape = true
+
+unfoldable pub ofTests : Bool
+unfolding first sizeVerdict homeVerdict roomVerdict imageVerdict eventFits eventVerdict lengthVerdict listVerdict
+ofTests = true
+
+unfoldable pub ofBlocks : Bool
+unfolding ofTests checkVerdict blockFits numberVerdict usedVerdict unusedVerdict blockVerdict tapeVerdict outputVerdict
+ofBlocks = true
+
+unfoldable pub ofImageCalls : Bool
+unfolding freshVerdict freshAnswer freshImage stepVerdict stepAnswer stepImage stoppedAnswer
+ofImageCalls = true
+
+unfoldable pub ofRunCall : Bool
+unfolding runEvents runRecords runVerdict runAnswer runImage runLedger
+ofRunCall = true
+
+unfoldable pub ofTapeCalls : Bool
+unfolding writeVerdict writeAnswer writeOutput readVerdict readAnswer readOutput
+ofTapeCalls = true
 
 unfoldable pub rules : Bool
-unfolding onesIn littleEndian number bytes allZero zeros splice envelopeIn processIn tabulate processesIn stateIn headerBytes processBytes recordBytes imageBytes imageWith headerFits every recordsFit places stagesFit markedSet restFits sound freshState ask passFor pass markFor mark unmark clear wanted leave heeding forward ends stroll wait endPut putAt startPut startGet work signal receive hear put react change place reaction outcome apply all quiet stopped ledgerRecord ledgerEntry ledgerFrom counted countsFrom after eventIn eventsIn words checkFrom covered join usedSlots listOf blockBytes slotsFor padded blockFor tapeOf first sizeVerdict homeVerdict roomVerdict imageVerdict eventFits eventVerdict lengthVerdict listVerdict checkVerdict blockFits numberVerdict usedVerdict unusedVerdict blockVerdict tapeVerdict outputVerdict freshVerdict freshAnswer freshImage stepVerdict stepAnswer stepImage runEvents runRecords runVerdict runAnswer runImage runLedger stoppedAnswer writeVerdict writeAnswer writeOutput readVerdict readAnswer readOutput
+unfolding ofBytes ofLists ofImage ofSound ofEvents ofRun ofTape ofBlocks ofImageCalls ofRunCall ofTapeCalls
 rules = true

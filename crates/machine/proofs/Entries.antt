@@ -7,7 +7,8 @@ use lib.ListN.{drop, replicate}
 use Rattle.machine.specs.Bytes.{bytes}
 use Rattle.machine.specs.Lists.{join}
 use Rattle.machine.specs.Tape.{tapeOf, check, covered, blockCheck}
-use Rattle.machine.specs.Answers.{Answer, freshAnswer, freshImage, stepAnswer, stepImage, runAnswer, runImage, runLedger, stoppedAnswer, writeAnswer, readAnswer}
+use Rattle.machine.specs.Answers.{Answer, freshAnswer, freshImage, stepAnswer, stepImage, runAnswer, runImage}
+use Rattle.machine.specs.Answers.{runLedger, stoppedAnswer, writeAnswer, readAnswer}
 use Rattle.machine.proofs.Computed.{rules}
 
 abbrev pub done : List ℕ → Answer

@@ -37,22 +37,27 @@ home = withHave true blank
 abbrev nothing : ℕ → List ℕ
 nothing n = replicate n 0
 
+-- eight more, as a list's length takes them
+abbrev eight : ℕ → ℕ
+eight n = suc (suc (suc (suc (suc (suc (suc (suc n)))))))
+
 blank-records : (n : ℕ) → recordBytes (replicate n blank) ≡ replicate (8 * n) 0
 unfolding recordBytes processBytes bytes
 blank-records zero = refl
 blank-records (suc n) =
-    let e : 8 * suc n ≡ suc (suc (suc (suc (suc (suc (suc (suc (8 * n)))))))) = omega arith in
+    let e : 8 * suc n ≡ eight (8 * n) = omega arith in
     rw (e, blank-records n)
 
-fresh-records : (n k : ℕ) → k < n → recordBytes (set (replicate n blank) k home) ≡ set (replicate (8 * n) 0) (8 * k + 1) 1
+fresh-records : (n k : ℕ) → k < n
+    → recordBytes (set (replicate n blank) k home) ≡ set (replicate (8 * n) 0) (8 * k + 1) 1
 unfolding recordBytes processBytes bytes
 fresh-records zero k h = absurd (omega arith)
 fresh-records (suc n) zero h =
-    let e : 8 * suc n ≡ suc (suc (suc (suc (suc (suc (suc (suc (8 * n)))))))) = omega arith in
+    let e : 8 * suc n ≡ eight (8 * n) = omega arith in
     rw (e, blank-records n)
 fresh-records (suc n) (suc k) h =
-    let e : 8 * suc n ≡ suc (suc (suc (suc (suc (suc (suc (suc (8 * n)))))))) = omega arith in
-    let f : 8 * suc k + 1 ≡ suc (suc (suc (suc (suc (suc (suc (suc (8 * k + 1)))))))) = omega arith in
+    let e : 8 * suc n ≡ eight (8 * n) = omega arith in
+    let f : 8 * suc k + 1 ≡ eight (8 * k + 1) = omega arith in
     rw (e, f, fresh-records n k (omega arith))
 
 -- zeros over the image's length, N in byte 0, and have in the home's flags
@@ -61,10 +66,15 @@ pub fresh-stores : (s : List ℕ) (n k : ℕ) → k < n
 unfolding freshState splice headerBytes bytes
 fresh-stores s n k h =
     let rest = drop (imageLength n) s in
-    let long : length (set (replicate n blank) k home) ≡ n = length-set (replicate n blank) k home ∙ length-replicate n blank in
-    let split : nothing (imageLength n) ≡ nothing 16 ++ nothing (8 * n) = sym (replicate-append-replicate 16 (8 * n) 0) in
-    let whole : 0 + length (nothing (imageLength n)) ≡ imageLength n = omega (arith, length-replicate {A = ℕ} (imageLength n) 0) in
-    let at : recordAt k + 1 ≡ suc (suc (suc (suc (suc (suc (suc (suc (suc (suc (suc (suc (suc (suc (suc (suc (8 * k + 1)))))))))))))))) = omega arith in
+    let long : length (set (replicate n blank) k home) ≡ n =
+    length-set (replicate n blank) k home ∙ length-replicate n blank in
+    let split : nothing (imageLength n) ≡ nothing 16 ++ nothing (8 * n) =
+    sym (replicate-append-replicate 16 (8 * n) 0) in
+    let whole : 0 + length (nothing (imageLength n)) ≡ imageLength n = omega (
+      arith,
+      length-replicate {A = ℕ} (imageLength n) 0,
+    ) in
+    let at : recordAt k + 1 ≡ eight (eight (8 * k + 1)) = omega arith in
     let within : 8 * k + 1 < length (nothing (8 * n)) = omega (arith, length-replicate {A = ℕ} (8 * n) 0) in
     rw (
       image-pieces s (freshState n k),
@@ -123,11 +133,20 @@ fresh-marks false (suc n) (suc k) = rw (fresh-marks false n k)
 pub fresh-fits : (n k : ℕ) → k < n → stateFits (freshState n k) ≡ true
 unfolding stateFits freshState restFits stagesFit onesIn
 fresh-fits n k h =
-    rw (all-fresh processFits n k refl refl, fresh-places n k h, all-fresh (stageFits empty) n k refl refl, fresh-marks full n k, fresh-marks empty n k)
+    rw (
+      all-fresh processFits n k refl refl,
+      fresh-places n k h,
+      all-fresh (stageFits empty) n k refl refl,
+      fresh-marks full n k,
+      fresh-marks empty n k,
+    )
 
 pub length-fresh : (n k : ℕ) → length (freshState n k .processes) ≡ n
 unfolding freshState
 length-fresh n k = length-set (replicate n blank) k home ∙ length-replicate n blank
+
+abbrev noNote : Process → Bool
+noNote p = eqb (p .note) 0
 
 pub fresh-in-range : (n k : ℕ) → InRange (freshState n k)
 unfolding freshState
@@ -137,7 +156,7 @@ fresh-in-range n k =
       notes =
           λ i h.
           let noted : eqb (processAt (freshProcesses n k) i .note) 0 ≡ true =
-          all-at (λ (p : Process). eqb (p .note) 0) (freshProcesses n k) blank (all-fresh (λ (p : Process). eqb (p .note) 0) n k refl refl) i h in
+          all-at noNote (freshProcesses n k) blank (all-fresh noNote n k refl refl) i h in
           rw (eqb-true (processAt (freshProcesses n k) i .note) 0 noted) (lit< tt);
     }
 
@@ -153,5 +172,11 @@ fresh-accepted n k s fine =
     let size : sizeIn image ≡ n = size-written s st ∙ long in
     let same : length image ≡ length s = length-written s st (omega (arith, facts .room)) in
     let fits : sound image ≡ true = sound-written s st (fresh-in-range n k) ∙ fresh-fits n k (facts .below) in
-    let sized : SizeFits (sizeIn image) = record { least = omega (arith, facts .size); most = omega (arith, facts .size) } in
+    let sized : SizeFits (sizeIn image) = record {
+      least = omega (arith, facts .size);
+      most = omega (
+        arith,
+        facts .size,
+      );
+    } in
     rw fine (image-whole image (omega (arith, facts .room)) sized (omega (arith, facts .room)) ∙ rw fits)

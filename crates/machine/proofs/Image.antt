@@ -11,7 +11,8 @@ use Rattle.machine.specs.declared.Process.{Process}
 use Rattle.machine.specs.Bytes.{splice}
 use Rattle.machine.specs.Ring.{imageLength, recordAt}
 use Rattle.machine.specs.Image.{State, sizeIn}
-use Rattle.machine.specs.Image.{headerBytes, processBytes, recordBytes, imageBytes, imageWith, withProcess, withEnvelope}
+use Rattle.machine.specs.Image.{headerBytes, processBytes, recordBytes, imageBytes, imageWith, withProcess}
+use Rattle.machine.specs.Image.{withEnvelope}
 use Rattle.machine.proofs.Bytes.{length-bytes, length-splice, splice-right, splice-whole}
 
 -- ---- lengths
@@ -40,19 +41,27 @@ length-image st =
 
 pub image-pieces : (s : List ℕ) (st : State)
     → imageWith s st
-    ≡ headerBytes (length (st .processes)) (st .envelope) ++ (recordBytes (st .processes) ++ drop (imageLength (length (st .processes))) s)
+    ≡ headerBytes (length (st .processes)) (st .envelope)
+    ++ (recordBytes (st .processes) ++ drop (imageLength (length (st .processes))) s)
 unfolding imageWith splice imageBytes
 image-pieces s st =
     let n = length (st .processes) in
     let e : 0 + length (headerBytes n (st .envelope) ++ recordBytes (st .processes)) ≡ imageLength n =
-    omega (arith, length-append (headerBytes n (st .envelope)) (recordBytes (st .processes)), length-header n (st .envelope), length-records (st .processes)) in
+    omega (
+      arith,
+      length-append (headerBytes n (st .envelope)) (recordBytes (st .processes)),
+      length-header n (st .envelope),
+      length-records (st .processes),
+    ) in
     rw (e, append-assoc (headerBytes n (st .envelope)) (recordBytes (st .processes)) (drop (imageLength n) s))
 
-pub length-written : (s : List ℕ) (st : State) → imageLength (length (st .processes)) ≤ length s → length (imageWith s st) ≡ length s
+pub length-written : (s : List ℕ) (st : State) → imageLength (length (st .processes)) ≤ length s
+    → length (imageWith s st) ≡ length s
 unfolding imageWith
 length-written s st h = length-splice s 0 (imageBytes st) (omega (arith, length-image st))
 
-pub length-with-process : (s : List ℕ) (i : ℕ) (p : Process) → recordAt i + 8 ≤ length s → length (withProcess s i p) ≡ length s
+pub length-with-process : (s : List ℕ) (i : ℕ) (p : Process) → recordAt i + 8 ≤ length s
+    → length (withProcess s i p) ≡ length s
 unfolding withProcess
 length-with-process s i p h = length-splice s (recordAt i) (processBytes p) (omega (arith, length-process p))
 
@@ -68,10 +77,15 @@ unfolding recordBytes
 records-write [] rest i p h = absurd (omega arith)
 records-write (q ∷ ps) rest zero p h =
     rw (append-assoc (processBytes q) (recordBytes ps) rest, append-assoc (processBytes p) (recordBytes ps) rest)
-    (splice-whole (processBytes q) (recordBytes ps ++ rest) (processBytes p) (length-process p ∙ sym (length-process q)))
+    (splice-whole (processBytes q) (recordBytes ps ++ rest) (processBytes p)
+    (length-process p ∙ sym (length-process q)))
 records-write (q ∷ ps) rest (suc i) p h =
     let e : 8 * suc i ≡ length (processBytes q) + 8 * i = omega (arith, length-process q) in
-    rw (append-assoc (processBytes q) (recordBytes ps) rest, append-assoc (processBytes q) (recordBytes (set ps i p)) rest, e)
+    rw (
+      append-assoc (processBytes q) (recordBytes ps) rest,
+      append-assoc (processBytes q) (recordBytes (set ps i p)) rest,
+      e,
+    )
     (splice-right (processBytes q) (recordBytes ps ++ rest) (8 * i) (processBytes p)
     ∙ ap (λ (l : List ℕ). processBytes q ++ l) (records-write ps rest i p (omega arith)))
 
@@ -105,4 +119,5 @@ unfolding withEnvelope
 write-envelope s st e =
     let n = length (st .processes) in
     rw (size-written s st, image-pieces s st, image-pieces s (enveloped st e))
-    (splice-whole (headerBytes n (st .envelope)) _ (headerBytes n e) (length-header n e ∙ sym (length-header n (st .envelope))))
+    (splice-whole (headerBytes n (st .envelope)) _ (headerBytes n e)
+    (length-header n e ∙ sym (length-header n (st .envelope))))

@@ -1,6 +1,7 @@
 -- What holds of the rules alone.
 pub mod Computed
 pub mod Entries
+pub mod Edges
 pub mod Bites
 pub mod Lists
 pub mod Bytes

@@ -84,7 +84,8 @@ every-all f [] d = refl
 every-all f (x ∷ xs) d =
     every-front (length xs) (λ i. f (getD (x ∷ xs) i d)) ∙ ap (λ (b : Bool). f x && b) (every-all f xs d)
 
-pub all-at : {A : Type 0} (f : A → Bool) (l : List A) (d : A) → all f l ≡ true → (i : ℕ) → i < length l → f (getD l i d) ≡ true
+pub all-at : {A : Type 0} (f : A → Bool) (l : List A) (d : A) → all f l ≡ true → (i : ℕ) → i < length l
+    → f (getD l i d) ≡ true
 all-at f l d e i h = every-at (length l) (λ i. f (getD l i d)) (every-all f l d ∙ e) i h
 
 pub all-more : {A : Type 0} (f : A → Bool) (l : List A) (x : A) → all f (l ++ (x ∷ [])) ≡ all f l && f x

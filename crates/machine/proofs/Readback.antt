@@ -11,7 +11,8 @@ use Rattle.machine.specs.Bytes.{bit, number, bytes}
 use Rattle.machine.specs.Lists.{tabulate}
 use Rattle.machine.specs.Ring.{imageLength, recordAt}
 use Rattle.machine.specs.Fields.{blank}
-use Rattle.machine.specs.Image.{State, pairBits, flagBits, requestBits, envelopeIn, processFrom, processIn, processesIn, stateIn}
+use Rattle.machine.specs.Image.{State, pairBits, flagBits, requestBits, envelopeIn, processFrom, processIn}
+use Rattle.machine.specs.Image.{processesIn, stateIn}
 use Rattle.machine.specs.Image.{headerBytes, processBytes, recordBytes, imageWith}
 use Rattle.machine.specs.Events.{processAt}
 use Rattle.machine.proofs.Lists.{length-tabulate, getD-tabulate}
@@ -26,24 +27,33 @@ module _ (t : List ℕ) (at : ℕ) (here more : List ℕ) (stands : drop at t �
   byte-here k = sym (getD-drop at t k 0) ∙ ap (λ (l : List ℕ). getD l k 0) stands
 
 -- four bytes that stand after k others
-number-here : (t : List ℕ) (at : ℕ) (before more : List ℕ) (n : ℕ) → n < 2 ^ 32 → drop at t ≡ before ++ (bytes 4 n ++ more)
+number-here : (t : List ℕ) (at : ℕ) (before more : List ℕ) (n : ℕ) → n < 2 ^ 32
+    → drop at t ≡ before ++ (bytes 4 n ++ more)
     → number t (at + length before) 4 ≡ n
 unfolding number
 number-here t at before more n h stands =
     let e : drop (at + length before) t ≡ bytes 4 n ++ more =
-    sym (drop-drop (length before) at t) ∙ ap (drop (length before)) stands ∙ drop-append-seam before (bytes 4 n ++ more) in
+    sym (drop-drop (length before) at t)
+    ∙ ap (drop (length before)) stands
+    ∙ drop-append-seam before (bytes 4 n ++ more) in
     rw (e, take-at (bytes 4 n) more 4 (length-bytes 4 n)) (littleEndian-bytes-4 n h)
 
 -- ---- a record
 
-process-here : (t : List ℕ) (at : ℕ) (p : Process) (more : List ℕ) → p .note < 2 ^ 32 → drop at t ≡ processBytes p ++ more
+process-here : (t : List ℕ) (at : ℕ) (p : Process) (more : List ℕ) → p .note < 2 ^ 32
+    → drop at t ≡ processBytes p ++ more
     → processFrom (getD t at 0) (getD t (at + 1) 0) (getD t (at + 2) 0) (number t (at + 4) 4) ≡ p
 unfolding processBytes
 process-here t at p more h stands =
     let byte = byte-here t at (processBytes p) more stands in
     let zeroth : getD t at 0 ≡ p .stage = ap (λ (k : ℕ). getD t k 0) (omega arith) ∙ byte 0 in
     let split : drop at t ≡ (p .stage ∷ flagBits p ∷ requestBits p ∷ 0 ∷ []) ++ (bytes 4 (p .note) ++ more) = stands in
-    rw (zeroth, byte 1, byte 2, number-here t at (p .stage ∷ flagBits p ∷ requestBits p ∷ 0 ∷ []) more (p .note) h split)
+    rw (
+      zeroth,
+      byte 1,
+      byte 2,
+      number-here t at (p .stage ∷ flagBits p ∷ requestBits p ∷ 0 ∷ []) more (p .note) h split,
+    )
     (process-is p)
 
 records-from : (ps : List Process) (rest : List ℕ) (i : ℕ) → i < length ps
@@ -53,7 +63,11 @@ records-from [] rest i h = absurd (omega arith)
 records-from (p ∷ ps) rest zero h = append-assoc (processBytes p) (recordBytes ps) rest
 records-from (p ∷ ps) rest (suc i) h =
     let e : 8 * suc i ≡ length (processBytes p) + 8 * i = omega (arith, length-process p) in
-    rw (append-assoc (processBytes p) (recordBytes ps) rest, e, drop-append-add (processBytes p) (recordBytes ps ++ rest) (8 * i))
+    rw (
+      append-assoc (processBytes p) (recordBytes ps) rest,
+      e,
+      drop-append-add (processBytes p) (recordBytes ps ++ rest) (8 * i),
+    )
     (records-from ps rest i (omega arith))
 
 -- the bytes after the record of process i
@@ -71,11 +85,13 @@ record-stands s st i h =
     let at : recordAt i ≡ length head + 8 * i = omega (arith, length-header n (st .envelope)) in
     rw (image-pieces s st, at, drop-append-add head (recordBytes ps ++ rest) (8 * i)) (records-from ps rest i h)
 
-pub read-process : (s : List ℕ) (st : State) (i : ℕ) → i < length (st .processes) → processAt (st .processes) i .note < 2 ^ 32
+pub read-process : (s : List ℕ) (st : State) (i : ℕ) → i < length (st .processes)
+    → processAt (st .processes) i .note < 2 ^ 32
     → processIn (imageWith s st) i ≡ processAt (st .processes) i
 unfolding processIn
 read-process s st i h small =
-    process-here (imageWith s st) (recordAt i) (processAt (st .processes) i) (following s st i) small (record-stands s st i h)
+    process-here (imageWith s st) (recordAt i) (processAt (st .processes) i) (following s st i) small
+    (record-stands s st i h)
 
 -- ---- the header
 
@@ -90,7 +106,8 @@ abbrev pub afterMessage : List ℕ → State → List ℕ
 afterMessage s st =
     (0 ∷ 0 ∷ 0 ∷ 0 ∷ []) ++ (recordBytes (st .processes) ++ drop (imageLength (length (st .processes))) s)
 
-pub header-stands : (s : List ℕ) (st : State) → imageWith s st ≡ frontOf st ++ (bytes 4 (st .envelope .message) ++ afterMessage s st)
+pub header-stands : (s : List ℕ) (st : State)
+    → imageWith s st ≡ frontOf st ++ (bytes 4 (st .envelope .message) ++ afterMessage s st)
 unfolding headerBytes
 header-stands s st =
     let m = bytes 4 (st .envelope .message) in
@@ -100,7 +117,8 @@ header-stands s st =
     ∙ append-assoc (frontOf st) (m ++ zero4) rest
     ∙ ap (λ (l : List ℕ). frontOf st ++ l) (append-assoc m zero4 rest)
 
-pub read-envelope : (s : List ℕ) (st : State) → st .envelope .message < 2 ^ 32 → envelopeIn (imageWith s st) ≡ st .envelope
+pub read-envelope : (s : List ℕ) (st : State) → st .envelope .message < 2 ^ 32
+    → envelopeIn (imageWith s st) ≡ st .envelope
 unfolding envelopeIn
 read-envelope s st small =
     let e = st .envelope in
@@ -122,7 +140,8 @@ pub record InRange (st : State) : Type 0 where
   pub message : st .envelope .message < 2 ^ 32
   pub notes : (i : ℕ) → i < length (st .processes) → processAt (st .processes) i .note < 2 ^ 32
 
-pub read-processes : (s : List ℕ) (st : State) → InRange st → processesIn (imageWith s st) (length (st .processes)) ≡ st .processes
+pub read-processes : (s : List ℕ) (st : State) → InRange st
+    → processesIn (imageWith s st) (length (st .processes)) ≡ st .processes
 unfolding processesIn
 read-processes s st range =
     let n = length (st .processes) in

@@ -46,6 +46,12 @@ pub second-fine : (v w : Verdict) → orElse v w ≡ Fine → w ≡ Fine
 second-fine Fine w e = e
 second-fine (Refused r) w e = absurd (let z : _≡_ {A = ℕ} 0 1 = cc in omega arith)
 
+unless-le : (a b : ℕ) (r : Refusal) → unless (leb a b) r ≡ Fine → a ≤ b
+unless-le a b r e = leb-true a b (unless-fine (leb a b) r e)
+
+unless-lt : (a b : ℕ) (r : Refusal) → unless (ltb a b) r ≡ Fine → a < b
+unless-lt a b r e = ltb-true a b (unless-fine (ltb a b) r e)
+
 pub record SizeFits (n : ℕ) : Type 0 where
   pub least : 2 ≤ n
   pub most : n ≤ 64
@@ -56,6 +62,9 @@ size-fits n e =
       least = leb-true 2 n (and-first (leb 2 n) (leb n 64) e);
       most = leb-true n 64 (and-second (leb 2 n) (leb n 64) e);
     }
+
+unless-size : (n : ℕ) (r : Refusal) → unless (sizeFits n) r ≡ Fine → SizeFits n
+unless-size n r e = size-fits n (unless-fine (sizeFits n) r e)
 
 pub fits-size : (n : ℕ) → SizeFits n → sizeFits n ≡ true
 fits-size n h = rw (le-leb 2 n (h .least), le-leb n 64 (h .most))
@@ -68,11 +77,14 @@ pub record FreshFine (n home : ℕ) (s : List ℕ) : Type 0 where
 pub fresh-fine : (n home : ℕ) (s : List ℕ) → freshVerdict n home s ≡ Fine → FreshFine n home s
 unfolding freshVerdict sizeVerdict homeVerdict roomVerdict
 fresh-fine n home s e =
-    let later = second-fine (sizeVerdict n) (orElse (homeVerdict n home) (roomVerdict n s)) e in
+    let a = sizeVerdict n in
+    let b = homeVerdict n home in
+    let c = roomVerdict n s in
+    let later = second-fine a (orElse b c) e in
     record {
-      size = size-fits n (unless-fine (sizeFits n) refusal.Size (first-fine (sizeVerdict n) (orElse (homeVerdict n home) (roomVerdict n s)) e));
-      below = ltb-true home n (unless-fine (ltb home n) refusal.Home (first-fine (homeVerdict n home) (roomVerdict n s) later));
-      room = leb-true (imageLength n) (length s) (unless-fine (leb (imageLength n) (length s)) refusal.Short (second-fine (homeVerdict n home) (roomVerdict n s) later));
+      size = unless-size n refusal.Size (first-fine a (orElse b c) e);
+      below = unless-lt home n refusal.Home (first-fine b c later);
+      room = unless-le (imageLength n) (length s) refusal.Short (second-fine b c later);
     }
 
 pub record ImageFine (s : List ℕ) : Type 0 where
@@ -91,9 +103,9 @@ image-fine s e =
     let from-b = second-fine a (orElse b (orElse c d)) e in
     let from-c = second-fine b (orElse c d) from-b in
     record {
-      header = leb-true 16 (length s) (unless-fine (leb 16 (length s)) refusal.Short (first-fine a (orElse b (orElse c d)) e));
-      size = size-fits (sizeIn s) (unless-fine (sizeFits (sizeIn s)) refusal.Unsound (first-fine b (orElse c d) from-b));
-      room = leb-true (imageLength (sizeIn s)) (length s) (unless-fine (leb (imageLength (sizeIn s)) (length s)) refusal.Short (first-fine c d from-c));
+      header = unless-le 16 (length s) refusal.Short (first-fine a (orElse b (orElse c d)) e);
+      size = unless-size (sizeIn s) refusal.Unsound (first-fine b (orElse c d) from-b);
+      room = unless-le (imageLength (sizeIn s)) (length s) refusal.Short (first-fine c d from-c);
       fits = unless-fine (sound s) refusal.Unsound (second-fine c d from-c);
     }
 
@@ -112,9 +124,14 @@ module _ (s : List ℕ) where
   unfolding imageVerdict
   image-too-many h low many = rw (le-leb 16 (length s) h, le-leb 2 (sizeIn s) low, lt-leb (sizeIn s) 64 many)
 
-  pub image-short : 16 ≤ length s → SizeFits (sizeIn s) → length s < imageLength (sizeIn s) → imageVerdict s ≡ Refused refusal.Short
+  pub image-short : 16 ≤ length s → SizeFits (sizeIn s) → length s < imageLength (sizeIn s)
+      → imageVerdict s ≡ Refused refusal.Short
   unfolding imageVerdict roomVerdict
-  image-short h size short = rw (le-leb 16 (length s) h, fits-size (sizeIn s) size, lt-leb (imageLength (sizeIn s)) (length s) short)
+  image-short h size short = rw (
+    le-leb 16 (length s) h,
+    fits-size (sizeIn s) size,
+    lt-leb (imageLength (sizeIn s)) (length s) short,
+  )
 
   pub image-whole : 16 ≤ length s → SizeFits (sizeIn s) → imageLength (sizeIn s) ≤ length s
       → imageVerdict s ≡ unless (sound s) refusal.Unsound

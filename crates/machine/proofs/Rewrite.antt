@@ -26,13 +26,15 @@ use Rattle.machine.proofs.Readback.{InRange}
 
 -- ---- parts of a buffer
 
-pub part-more : (s : List ℕ) (at width : ℕ) → at < length s → part s at (suc width) ≡ getD s at 0 ∷ part s (at + 1) width
+pub part-more : (s : List ℕ) (at width : ℕ) → at < length s
+    → part s at (suc width) ≡ getD s at 0 ∷ part s (at + 1) width
 part-more s at width h = rw (add-one at, drop-cons s at 0 h)
 
 pub part-add : (s : List ℕ) (at v w : ℕ) → part s at (v + w) ≡ part s at v ++ part s (at + v) w
 part-add s at v w = take-add v w (drop at s) ∙ ap (λ (l : List ℕ). part s at v ++ take w l) (drop-drop v at s)
 
-pub zero-part : (s : List ℕ) (at width : ℕ) → at + width ≤ length s → zeros s at width ≡ true → part s at width ≡ replicate width 0
+pub zero-part : (s : List ℕ) (at width : ℕ) → at + width ≤ length s → zeros s at width ≡ true
+    → part s at width ≡ replicate width 0
 zero-part s at zero h z = refl
 zero-part s at (suc width) h z =
     let both : eqb (getD s at 0) 0 && zeros s (at + 1) width ≡ true = sym (zeros-more s at width) ∙ z in
@@ -40,7 +42,8 @@ zero-part s at (suc width) h z =
     ∙ ap₂ (λ (b : ℕ) (l : List ℕ). b ∷ l) (eqb-true _ _ (and-first (eqb (getD s at 0) 0) (zeros s (at + 1) width) both))
     (zero-part s (at + 1) width (omega arith) (and-second (eqb (getD s at 0) 0) (zeros s (at + 1) width) both))
 
-pub bytes-number : (s : List ℕ) (at width : ℕ) → at + width ≤ length s → Bytes s → bytes width (number s at width) ≡ part s at width
+pub bytes-number : (s : List ℕ) (at width : ℕ) → at + width ≤ length s → Bytes s
+    → bytes width (number s at width) ≡ part s at width
 unfolding bytes
 bytes-number s at zero h small = refl
 bytes-number s at (suc width) h small =
@@ -94,13 +97,19 @@ rewrite-records s i (suc n) room small facts =
 
 -- ---- the header
 
-rewrite-header : (s : List ℕ) → 16 ≤ length s → Bytes s → HeaderFacts s → headerBytes (sizeIn s) (envelopeIn s) ≡ take 16 s
+rewrite-header : (s : List ℕ) → 16 ≤ length s → Bytes s → HeaderFacts s
+    → headerBytes (sizeIn s) (envelopeIn s) ≡ take 16 s
 unfolding headerBytes envelopeIn
 rewrite-header s room small facts =
-    rw (is-bit (getD s 1 0) (facts .status), markers-are (getD s 2 0) (facts .markers), bytes-number s 8 4 (omega arith) small)
+    rw (
+      is-bit (getD s 1 0) (facts .status),
+      markers-are (getD s 2 0) (facts .markers),
+      bytes-number s 8 4 (omega arith) small,
+    )
     (sym
     (part-add s 0 8 8
-    ∙ ap₂ (λ (a b : List ℕ). a ++ b) front (part-add s 8 4 4 ∙ ap (λ (l : List ℕ). part s 8 4 ++ l) (zero-part s 12 4 room (facts .spare)))))
+    ∙ ap₂ (λ (a b : List ℕ). a ++ b) front
+    (part-add s 8 4 4 ∙ ap (λ (l : List ℕ). part s 8 4 ++ l) (zero-part s 12 4 room (facts .spare)))))
   where
     front : part s 0 8 ≡ getD s 0 0 ∷ getD s 1 0 ∷ getD s 2 0 ∷ getD s 3 0 ∷ getD s 4 0 ∷ 0 ∷ 0 ∷ 0 ∷ []
     front =
@@ -115,7 +124,8 @@ rewrite-header s room small facts =
 
 -- ---- the whole image
 
-pub rewrite-image : (s : List ℕ) → imageLength (sizeIn s) ≤ length s → Bytes s → sound s ≡ true → imageWith s (stateIn s) ≡ s
+pub rewrite-image : (s : List ℕ) → imageLength (sizeIn s) ≤ length s → Bytes s → sound s ≡ true
+    → imageWith s (stateIn s) ≡ s
 unfolding stateIn processesIn
 rewrite-image s room small fits =
     let n = sizeIn s in

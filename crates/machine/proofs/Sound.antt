@@ -11,7 +11,8 @@ use Rattle.machine.specs.Ring.{recordAt}
 use Rattle.machine.specs.Fields.{full, empty}
 use Rattle.machine.specs.Image.{State, processIn, sizeIn, stateIn}
 use Rattle.machine.specs.Stages.{lastStage}
-use Rattle.machine.specs.Sound.{headerFits, markFits, noteFits, recordsFit, places, stagesFit, countFits, restFits, sound}
+use Rattle.machine.specs.Sound.{headerFits, markFits, noteFits, recordsFit, places, stagesFit, countFits}
+use Rattle.machine.specs.Sound.{restFits, sound}
 use Rattle.machine.proofs.Lists.{and-first, and-second, every-at}
 
 -- ---- the header

@@ -34,13 +34,17 @@ replaced-in-range st i p range small =
       notes = λ k h. note k h (eqb k i) refl;
     }
   where
-    note : (k : ℕ) → k < length (set (st .processes) i p) → (t : Bool) → eqb k i ≡ t → processAt (set (st .processes) i p) k .note < 2 ^ 32
+    note : (k : ℕ) → k < length (set (st .processes) i p) → (t : Bool) → eqb k i ≡ t
+        → processAt (set (st .processes) i p) k .note < 2 ^ 32
     note k h true e =
         let here : k ≡ i = eqb-true k i e in
         let below : i < length (st .processes) = omega (arith, length-set (st .processes) i p) in
         rw (here, getD-set-same (st .processes) i p blank below) small
     note k h false e =
-        rw (getD-set-other (st .processes) i k p blank (eqb-false k i e)) (range .notes k (omega (arith, length-set (st .processes) i p)))
+        rw (getD-set-other (st .processes) i k p blank (eqb-false k i e)) (range .notes k (omega (
+          arith,
+          length-set (st .processes) i p,
+        )))
 
 pub enveloped-in-range : (st : State) (e : Envelope) → InRange st → e .message < 2 ^ 32 → InRange (enveloped st e)
 enveloped-in-range st e range small = record { message = small; notes = range .notes }

@@ -58,7 +58,8 @@ pub places-none : places [] ≡ 0
 unfolding places
 places-none = refl
 
-pub places-more : (ps : List Process) (p : Process) → places (ps ++ (p ∷ [])) ≡ places ps + bit (p .have) + bit (p .arriving)
+pub places-more : (ps : List Process) (p : Process)
+    → places (ps ++ (p ∷ [])) ≡ places ps + bit (p .have) + bit (p .arriving)
 unfolding places
 places-more [] p = omega arith
 places-more (q ∷ ps) p = omega (arith, places-more ps p)
@@ -80,7 +81,9 @@ marked-more s [] p = omega arith
 marked-more s (q ∷ ps) p =
     let b = bit (for (p .mark) s) in
     let double : b * 2 ^ suc (length ps) ≡ 2 * (b * 2 ^ length ps) =
-    ap (λ (x : ℕ). b * x) (pow-suc 2 (length ps)) ∙ sym (mul-assoc b (2 ^ length ps) 2) ∙ mul-comm (b * 2 ^ length ps) 2 in
+    ap (λ (x : ℕ). b * x) (pow-suc 2 (length ps))
+    ∙ sym (mul-assoc b (2 ^ length ps) 2)
+    ∙ mul-comm (b * 2 ^ length ps) 2 in
     omega (arith, marked-more s ps p)
 
 pub marked-lt : (s : Status) (ps : List Process) → markedSet s ps < 2 ^ length ps

@@ -22,7 +22,8 @@ use Rattle.machine.proofs.Lists.{every-same, every-all}
 use Rattle.machine.proofs.Bits.{pair-le, flags-le}
 use Rattle.machine.proofs.Bytes.{length-bytes, littleEndian-bytes-4, all-zero}
 use Rattle.machine.proofs.Image.{size-written}
-use Rattle.machine.proofs.Readback.{InRange, byte-here, following, record-stands, read-process, afterMessage, header-stands, read-state}
+use Rattle.machine.proofs.Readback.{InRange, byte-here, following, record-stands, read-process, afterMessage}
+use Rattle.machine.proofs.Readback.{header-stands, read-state}
 
 -- ---- the rules on the state itself
 
@@ -58,7 +59,8 @@ four-zeros : allZero (0 ∷ 0 ∷ 0 ∷ 0 ∷ []) ≡ true
 unfolding allZero
 four-zeros = refl
 
-header-written : (s : List ℕ) (st : State) → st .envelope .message < 2 ^ 32 → headerFits (imageWith s st) ≡ envelopeFits (st .envelope)
+header-written : (s : List ℕ) (st : State) → st .envelope .message < 2 ^ 32
+    → headerFits (imageWith s st) ≡ envelopeFits (st .envelope)
 unfolding headerFits zeros
 header-written s st small =
     let e = st .envelope in
@@ -81,7 +83,8 @@ header-written s st small =
 
 -- ---- the records
 
-record-written : (s : List ℕ) (st : State) (i : ℕ) → i < length (st .processes) → processAt (st .processes) i .note < 2 ^ 32
+record-written : (s : List ℕ) (st : State) (i : ℕ) → i < length (st .processes)
+    → processAt (st .processes) i .note < 2 ^ 32
     → holds (recordRulesIn (imageWith s st) i) ≡ processFits (processAt (st .processes) i)
 unfolding processBytes
 record-written s st i h small =

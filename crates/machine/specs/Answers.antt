@@ -13,7 +13,8 @@ use Rattle.machine.specs.Events.{Event, outcome, apply}
 use Rattle.machine.specs.Stopped.{stopped}
 use Rattle.machine.specs.Run.{outcomeNumber, outcomeMessage, ledgerFrom, countsFrom, noCounts, countValues, after}
 use Rattle.machine.specs.Tape.{eventIn, eventsIn, listOf, tapeOf}
-use Rattle.machine.specs.Refusals.{numberOf, placeOf, orElse, codes, sizeVerdict, homeVerdict, roomVerdict, imageVerdict}
+use Rattle.machine.specs.Refusals.{numberOf, placeOf, orElse, codes, sizeVerdict, homeVerdict, roomVerdict}
+use Rattle.machine.specs.Refusals.{imageVerdict}
 use Rattle.machine.specs.Refusals.{eventVerdict, listVerdict, tapeVerdict, outputVerdict}
 
 -- 0 and the values of the result, or the refusal's number and its place

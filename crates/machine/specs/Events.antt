@@ -12,8 +12,10 @@ use Rattle.machine.specs.declared.Outcome.{Outcome}
 use Rattle.machine.specs.declared.Outcome.the-variants.{Idle, Moved, Fill, Take, Sent, Got}
 use Rattle.machine.specs.declared.Reaction.{Reaction}
 use Rattle.machine.specs.Ring.{left, right}
-use Rattle.machine.specs.Fields.{Status, full, empty, none, for, with, either, count, withCount, withMarker, withMarked, holding}
-use Rattle.machine.specs.Fields.{blank, withStage, withHave, withArriving, withNews, withAsked, withItself, withMark, withLink, withNote}
+use Rattle.machine.specs.Fields.{Status, full, empty, none, for, with, either, count, withCount, withMarker}
+use Rattle.machine.specs.Fields.{withMarked, holding}
+use Rattle.machine.specs.Fields.{blank, withStage, withHave, withArriving, withNews, withAsked, withItself}
+use Rattle.machine.specs.Fields.{withMark, withLink, withNote}
 use Rattle.machine.specs.Image.{State}
 use Rattle.machine.specs.Stages.{plain, told}
 
@@ -124,8 +126,8 @@ ends o r =
 unfoldable pub stroll : Reaction → Reaction
 stroll r = cond (r .process .have) (forward r) (pass r)
 
--- stages 2 and 7, waiting for s: without the envelope ask for s, then pass requests; with it of that status to the stage
--- `next`; with it of the other, mark and forward
+-- stages 2 and 7, waiting for s: without the envelope ask for s, then pass requests; with it of that status to the
+-- stage `next`; with it of the other, mark and forward
 unfoldable pub wait : Status → ℕ → Reaction → Reaction
 wait s next r =
     cond (r .process .have)
@@ -216,7 +218,8 @@ change l k f = set l k (f (processAt l k))
 -- a reaction at process i: its own record, then the left's, then the right's, each as the one before left it
 unfoldable pub place : List Process → ℕ → Reaction → List Process
 place l i r =
-    change (change (set l i (r .process)) (left (length l) i) (requested (r .asks))) (right (length l) i) (arrived (r .leaves))
+    change (change (set l i (r .process)) (left (length l) i) (requested (r .asks)))
+    (right (length l) i) (arrived (r .leaves))
 
 -- an event at its process of a state: what it does there, its outcome, and the state after it
 unfoldable pub reaction : State → Event → Reaction
@@ -226,4 +229,8 @@ unfoldable pub outcome : State → Event → Outcome
 outcome st v = reaction st v .outcome
 
 unfoldable pub apply : State → Event → State
-apply st v = record { envelope = reaction st v .envelope; processes = place (st .processes) (v .process) (reaction st v) }
+apply st v =
+    record {
+      envelope = reaction st v .envelope;
+      processes = place (st .processes) (v .process) (reaction st v);
+    }

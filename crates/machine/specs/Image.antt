@@ -42,7 +42,8 @@ processFrom stage flags requests note =
 -- the record of process i
 unfoldable pub processIn : List ℕ → ℕ → Process
 processIn s i =
-    processFrom (getD s (recordAt i) 0) (getD s (recordAt i + 1) 0) (getD s (recordAt i + 2) 0) (number s (recordAt i + 4) 4)
+    processFrom (getD s (recordAt i) 0) (getD s (recordAt i + 1) 0) (getD s (recordAt i + 2) 0)
+    (number s (recordAt i + 4) 4)
 
 -- the records of processes 0 to n − 1
 unfoldable pub processesIn : List ℕ → ℕ → List Process

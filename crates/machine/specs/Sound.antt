@@ -24,7 +24,8 @@ holds rules = holdsFrom true rules
 
 -- ---- the header's bytes, each by its own range or zero
 
--- byte 1 is 0 or 1; byte 2 has bits 0 and 1 alone; bytes 5 to 7 are 0; the message is 0 when empty; bytes 12 to 15 are 0
+-- byte 1 is 0 or 1; byte 2 has bits 0 and 1 alone; bytes 5 to 7 are 0; the message is 0 when empty; bytes 12 to 15
+-- are 0
 abbrev pub headerRules : List ℕ → List Bool
 headerRules s =
     leb (getD s 1 0) 1

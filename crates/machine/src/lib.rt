@@ -21,7 +21,8 @@ pub struct Envelope {
 }
 
 // A process: a node of the ring with its main, get and put threads. `asked` is asked by the right, `itself` asked the
-// left itself, `link` a request on the link from the right; `news` wakes the put thread; the note is the message to send.
+// left itself, `link` a request on the link from the right; `news` is for the put thread, and the note is the message
+// to send.
 pub struct Process {
     pub stage: u8,
     pub have: bool,

@@ -17,7 +17,11 @@ pub process-stores : (s : List ℕ) {t u : List ℕ} (i : ℕ) {flags requests :
     → u ≡ withProcess s i p
 unfolding withProcess processBytes
 process-stores s {t} {u} i p room f r first second =
-    second ∙ rw (first, f, r) (splice-next s (16 + 8 * i) (p .stage ∷ flagBits p ∷ requestBits p ∷ 0 ∷ []) (bytes 4 (p .note)) room)
+    second ∙ rw (
+      first,
+      f,
+      r,
+    ) (splice-next s (16 + 8 * i) (p .stage ∷ flagBits p ∷ requestBits p ∷ 0 ∷ []) (bytes 4 (p .note)) room)
 
 pub envelope-stores : (s : List ℕ) {t u v w : List ℕ} {full markers : ℕ} (e : Envelope)
     → full ≡ bit (e .full) → markers ≡ pairBits (e .marker)

@@ -21,7 +21,8 @@ use Rattle.machine.specs.Image.{envelopeIn, processIn, processesIn, sizeIn, sta
 use Rattle.machine.specs.Sound.{headerFits, markedSet, restFits, sound}
 use Rattle.machine.specs.Refusals.{imageVerdict}
 use Rattle.machine.proofs.Bytes.{zeros-3, zeros-number}
-use Rattle.machine.proofs.Walk.{processes-none, processes-more, length-processes, records-none, records-more, stages-none, stages-more}
+use Rattle.machine.proofs.Walk.{processes-none, processes-more, length-processes, records-none, records-more}
+use Rattle.machine.proofs.Walk.{stages-none, stages-more}
 use Rattle.machine.proofs.Walk.{places-none, places-more, places-le, marked-none, marked-more, marked-lt, ones-64}
 use Rattle.sound.specs.declared.Walk.{Walk}
 use Rattle.sound.specs.declared.Checked.the-variants.{Done, Refused}
@@ -43,17 +44,34 @@ member-off set i = omega arith
 pub walk-none : (s : List ℕ) (status : Status)
     → record { fits = true; stages = true; places = 0; full = 0; empty = 0 } ≡ walkOf s status 0
 unfolding walkOf
-walk-none s status = rw (processes-none s, records-none s, stages-none status, places-none, marked-none full, marked-none empty)
+walk-none s status = rw (
+  processes-none s,
+  records-none s,
+  stages-none status,
+  places-none,
+  marked-none full,
+  marked-none empty,
+)
 
 pub walk-more : (s : List ℕ) (status : Status) (i : ℕ)
-    → walkedOn (walkOf s status i) i status (getD s (recordAt i + 1) 0) (getD s (recordAt i + 3) 0) (processIn s i) ≡ walkOf s status (i + 1)
+    → walkedOn (walkOf s status i) i status (getD s (recordAt i + 1) 0) (getD s (recordAt i + 3) 0) (processIn s i)
+    ≡ walkOf s status (i + 1)
 unfolding walkOf walkedOn
 walk-more s status i =
     let ps = processesIn s i in
     let p = processIn s i in
-    rw (processes-more s i, records-more s i, stages-more status ps p, places-more ps p, marked-more full ps p, marked-more empty ps p, length-processes s i)
+    rw (
+      processes-more s i,
+      records-more s i,
+      stages-more status ps p,
+      places-more ps p,
+      marked-more full ps p,
+      marked-more empty ps p,
+      length-processes s i,
+    )
 
-pub walk-step : (s : List ℕ) (status : Status) (i : ℕ) {w w′ : Walk} {p : Process} → w ≡ walkOf s status i → p ≡ processIn s i
+pub walk-step : (s : List ℕ) (status : Status) (i : ℕ) {w w′ : Walk} {p : Process} → w ≡ walkOf s status i
+    → p ≡ processIn s i
     → w′ ≡ walkedOn w i status (getD s (recordAt i + 1) 0) (getD s (recordAt i + 3) 0) p → w′ ≡ walkOf s status (i + 1)
 walk-step s status i before read next = next ∙ rw (before, read) (walk-more s status i)
 
@@ -80,14 +98,25 @@ walk-bounded s status i e =
 pub sound-walked : (s : List ℕ) (n : ℕ) {h : Bool} {e : Envelope} {w : Walk} {countFull countEmpty : ℕ}
     → n ≡ sizeIn s → n ≤ 64 → h ≡ headerFits s → e ≡ envelopeIn s → w ≡ walkOf s (e .full) n
     → countFull ≡ e .marked .full → countEmpty ≡ e .marked .empty
-    → h && w .fits && (eqb (w .places) 1 && w .stages && eqb (ones (w .full)) countFull && eqb (ones (w .empty)) countEmpty) ≡ sound s
+    → h && w .fits
+    && (eqb (w .places) 1 && w .stages && eqb (ones (w .full)) countFull && eqb (ones (w .empty)) countEmpty)
+    ≡ sound s
 unfolding sound restFits stateIn walkOf
 sound-walked s n size most header envelope walked full-count empty-count =
     let ps = processesIn s (sizeIn s) in
     let long = length-processes s (sizeIn s) in
     let below : (st : Status) → markedSet st ps < 2 ^ 64 =
     λ st. le-trans (rw long at (marked-lt st ps)) (pow-mono {i = sizeIn s} {j = 64} (omega arith)) in
-    rw (walked, header, full-count, empty-count, envelope, size, ← ones-64 (markedSet full ps) (below full), ← ones-64 (markedSet empty ps) (below empty))
+    rw (
+      walked,
+      header,
+      full-count,
+      empty-count,
+      envelope,
+      size,
+      ← ones-64 (markedSet full ps) (below full),
+      ← ones-64 (markedSet empty ps) (below empty),
+    )
 
 -- ---- the header, as code reads it
 
@@ -101,7 +130,8 @@ header-read s m z = rw (m, z, zeros-3 s 5, zeros-number s 8 4, zeros-number s 12
 -- ---- the test of an image: refused, and done
 
 module _ (s : List ℕ) where
-  pub checked-refused : (r : Refusal) → imageVerdict s ≡ verdict.Refused r → Refused r ≡ checkedAs (imageVerdict s) (sizeIn s)
+  pub checked-refused : (r : Refusal) → imageVerdict s ≡ verdict.Refused r
+      → Refused r ≡ checkedAs (imageVerdict s) (sizeIn s)
   checked-refused r e = rw e
 
   pub checked-done : {n : ℕ} → n ≡ sizeIn s → imageVerdict s ≡ verdict.Fine

@@ -9,7 +9,8 @@ use Rattle.image.proofs.clear.Statement.{statement}
 use Rattle.image.proofs.clear.Tie as tie
 
 abbrev Inv-loop : tie.InvT-loop
-Inv-loop bytes₀ count i₀ bytes i = (i ≤ count) × (length bytes ≡ length bytes₀) × (bytes ≡ splice bytes₀ 0 (replicate i 0))
+Inv-loop bytes₀ count i₀ bytes i =
+    (i ≤ count) × (length bytes ≡ length bytes₀) × (bytes ≡ splice bytes₀ 0 (replicate i 0))
 
 abbrev μ-loop : tie.MeasureT-loop
 μ-loop bytes₀ count i₀ bytes i = count - i
@@ -30,7 +31,8 @@ loop-again : tie.Need-loop-again Inv-loop μ-loop
 loop-again c =
     let l = c .before .loop in
     let s = c .before .before .args .bytes .now in
-    (omega arith, length-set (l .bytes) (l .i) 0 ∙ l .inv .1, ap (λ t. set t (l .i) 0) (l .inv .2) ∙ cleared-more s (l .i) (omega arith))
+    let more = ap (λ t. set t (l .i) 0) (l .inv .2) ∙ cleared-more s (l .i) (omega arith) in
+    (omega arith, length-set (l .bytes) (l .i) 0 ∙ l .inv .1, more)
 
 same-length : tie.Need-same-length Inv-loop μ-loop
 same-length c = c .before .loop .inv .1

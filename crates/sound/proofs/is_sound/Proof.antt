@@ -1,4 +1,5 @@
--- Header, records and the rest are the rules' three parts; the ones that a machine counts are the set's members. Assumes nothing.
+-- Header, records and the rest are the rules' three parts; the ones that a machine counts are the set's members.
+-- Assumes nothing.
 use native.Mathlib.Omega.{arith}
 use Rattle.sound.proofs.Walked.{sound-walked}
 use Rattle.sound.proofs.is_sound.Statement.{statement}
@@ -23,7 +24,8 @@ returns : tie.Need-returns
 returns c =
     let walked = c .before .before .before .before .before .before .before .before in
     let start = walked .before .before .before in
-    sound-walked (start .args .image .now) (start .args .n) (start .pre .0) (start .pre .1) (c .before .header-fits .ensures)
+    sound-walked (start .args .image .now) (start .args .n) (start .pre .0) (start .pre .1)
+    (c .before .header-fits .ensures)
     (walked .before .envelope-at .ensures) (walked .over .ensures)
     (c .before .before .before .before .wide32 .ensures .0) (c .before .before .wide322 .ensures .0)
 

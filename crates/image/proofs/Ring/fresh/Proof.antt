@@ -15,18 +15,21 @@ use Rattle.image.proofs.Ring.fresh.Tie as tie
 returns : tie.Need-returns
 returns c =
     let a = c .before .before .args in
-    fresh-refused (a .n) (a .home) (a .image .now) refusal.Size (fresh-too-few (a .n) (a .home) (a .image .now) (c .if1 .taken))
+    fresh-refused (a .n) (a .home) (a .image .now) refusal.Size
+    (fresh-too-few (a .n) (a .home) (a .image .now) (c .if1 .taken))
 
 returns-2 : tie.Need-returns-2
 returns-2 c =
     let a = c .before .before .before .args in
-    fresh-refused (a .n) (a .home) (a .image .now) refusal.Size (fresh-too-many (a .n) (a .home) (a .image .now) (c .before .if1 .left) (c .if2 .taken))
+    fresh-refused (a .n) (a .home) (a .image .now) refusal.Size
+    (fresh-too-many (a .n) (a .home) (a .image .now) (c .before .if1 .left) (c .if2 .taken))
 
 returns-3 : tie.Need-returns-3
 returns-3 c =
     let a = c .before .before .before .before .args in
     let size : SizeFits (a .n) = record { least = c .before .before .if1 .left; most = c .before .if2 .left } in
-    fresh-refused (a .n) (a .home) (a .image .now) refusal.Home (fresh-no-home (a .n) (a .home) (a .image .now) size (c .if3 .taken))
+    fresh-refused (a .n) (a .home) (a .image .now) refusal.Home
+    (fresh-no-home (a .n) (a .home) (a .image .now) size (c .if3 .taken))
 
 mul-count : tie.Need-mul-count
 mul-count c = omega arith
@@ -37,8 +40,10 @@ add-count c = omega arith
 returns-4 : tie.Need-returns-4
 returns-4 c =
     let a = c .before .before .before .before .before .args in
-    let size : SizeFits (a .n) = record { least = c .before .before .before .if1 .left; most = c .before .before .if2 .left } in
-    fresh-refused (a .n) (a .home) (a .image .now) refusal.Short (fresh-short (a .n) (a .home) (a .image .now) size (c .before .if3 .left) (c .if4 .taken))
+    let ranged = c .before .before in
+    let size : SizeFits (a .n) = record { least = ranged .before .if1 .left; most = ranged .if2 .left } in
+    fresh-refused (a .n) (a .home) (a .image .now) refusal.Short
+    (fresh-short (a .n) (a .home) (a .image .now) size (c .before .if3 .left) (c .if4 .taken))
 
 mul-at : tie.Need-mul-at
 mul-at c = omega arith
@@ -68,7 +73,8 @@ returns-5 : tie.Need-returns-5
 returns-5 c =
     let tested = c .before .before .before .before in
     let a = tested .before .before .before .before .before .args in
-    let size : SizeFits (a .n) = record { least = tested .before .before .before .if1 .left; most = tested .before .before .if2 .left } in
+    let ranged = tested .before .before in
+    let size : SizeFits (a .n) = record { least = ranged .before .if1 .left; most = ranged .if2 .left } in
     fresh-done (a .n) (a .home) (a .image .now) _
     (fresh-whole (a .n) (a .home) (a .image .now) size (tested .before .if3 .left) (tested .if4 .left))
     (ap (λ l. set (set l 0 (a .n)) (16 + 8 * a .home + 1) 1) (c .before .before .clear .ensures)

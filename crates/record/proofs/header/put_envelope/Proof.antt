@@ -34,8 +34,10 @@ returns c =
     let second = third .before .before .before .before in
     let first = second .before .before .before .before in
     let a = first .before .before .before .before .before .before .args in
-    envelope-stores (a .image .now) (a .e) (first .before .before .digit .ensures .0) (first .before .pair-bits .ensures .0)
-    (first .put-four .ensures) (second .put-four2 .ensures) (third .put-number .ensures) (c .before .before .put-four3 .ensures)
+    envelope-stores (a .image .now) (a .e)
+    (first .before .before .digit .ensures .0) (first .before .pair-bits .ensures .0)
+    (first .put-four .ensures) (second .put-four2 .ensures) (third .put-number .ensures)
+    (c .before .before .put-four3 .ensures)
 
 pub put-envelope-spec : {M : Type 1} → statement M
 put-envelope-spec =

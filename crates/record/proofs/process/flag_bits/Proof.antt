@@ -29,4 +29,6 @@ returns : tie.Need-returns
 returns c = omega arith
 
 pub flag-bits-spec : {M : Type 1} → statement M
-flag-bits-spec = tie.close (tie.spec digit-requires digit-requires-2 mul-result add-result digit-requires-3 mul-result-2 add-result-2 returns)
+flag-bits-spec =
+    tie.close
+    (tie.spec digit-requires digit-requires-2 mul-result add-result digit-requires-3 mul-result-2 add-result-2 returns)

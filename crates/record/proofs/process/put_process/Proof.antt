@@ -32,7 +32,8 @@ returns : tie.Need-returns
 returns c =
     let wrote = c .before .before .before .before .before .before in
     let a = wrote .before .before .before .before .before .args in
-    process-stores (a .image .now) (a .i) (a .p) (omega arith) (wrote .before .before .flag-bits .ensures) (wrote .before .request-bits .ensures)
+    process-stores (a .image .now) (a .i) (a .p) (omega arith)
+    (wrote .before .before .flag-bits .ensures) (wrote .before .request-bits .ensures)
     (wrote .put-four .ensures) (c .before .before .put-number .ensures)
 
 pub put-process-spec : {M : Type 1} → statement M

@@ -38,4 +38,17 @@ returns : tie.Need-returns
 returns c = omega arith
 
 pub request-bits-spec : {M : Type 1} → statement M
-request-bits-spec = tie.close (tie.spec pair-bits-requires pair-bits-requires-2 mul-result add-result pair-bits-requires-3 mul-result-2 add-result-2 pair-bits-requires-4 mul-result-3 add-result-3 returns)
+request-bits-spec =
+    tie.close
+    (tie.spec
+    pair-bits-requires
+    pair-bits-requires-2
+    mul-result
+    add-result
+    pair-bits-requires-3
+    mul-result-2
+    add-result-2
+    pair-bits-requires-4
+    mul-result-3
+    add-result-3
+    returns)

@@ -52,14 +52,18 @@ returns-5 c =
     let n = c .before .before .before .before .before .wide .ensures .0 in
     let s = c .before .before .before .before .before .before .before .before .before .args .image .now in
     let size : SizeFits (sizeIn s) = record { least = omega arith; most = omega arith } in
-    checked-done s n (image-whole s (omega arith) size (omega arith) ∙ rw (← c .before .is-sound .ensures, c .if5 .taken))
+    checked-done s n (image-whole s (omega arith) size (omega arith) ∙ rw (
+      ← c .before .is-sound .ensures,
+      c .if5 .taken,
+    ))
 
 returns-6 : tie.Need-returns-6
 returns-6 c =
     let n = c .before .before .before .before .before .wide .ensures .0 in
     let s = c .before .before .before .before .before .before .before .before .before .args .image .now in
     let size : SizeFits (sizeIn s) = record { least = omega arith; most = omega arith } in
-    checked-refused s refusal.Unsound (image-whole s (omega arith) size (omega arith) ∙ rw (← c .before .is-sound .ensures, c .if5 .left))
+    checked-refused s refusal.Unsound
+    (image-whole s (omega arith) size (omega arith) ∙ rw (← c .before .is-sound .ensures, c .if5 .left))
 
 pub of-spec : {M : Type 1} → statement M
 of-spec =

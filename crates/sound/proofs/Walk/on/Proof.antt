@@ -33,7 +33,14 @@ unfolding walkedOn
 returns c =
     let counted = c .before .before in
     let staged = counted .before .before .before .before in
-    rw (c .with-member2 .ensures, c .before .with-member .ensures, counted .digit2 .ensures .0, counted .before .before .digit .ensures .0, staged .stage-fits .ensures, staged .before .before .record-fits .ensures)
+    rw (
+      c .with-member2 .ensures,
+      c .before .with-member .ensures,
+      counted .digit2 .ensures .0,
+      counted .before .before .digit .ensures .0,
+      staged .stage-fits .ensures,
+      staged .before .before .record-fits .ensures,
+    )
 
 pub on-spec : {M : Type 1} → statement M
 on-spec =

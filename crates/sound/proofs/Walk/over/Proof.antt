@@ -54,7 +54,8 @@ loop-again : tie.Need-loop-again Inv-loop μ-loop
 loop-again c =
     let l = c .before .before .before .before .before .loop in
     let a = c .before .before .before .before .before .before .before .args in
-    (omega arith, walk-step (a .image .now) (a .full) (l .i) (l .inv .1) (c .before .process-at .ensures) (c .on .ensures))
+    let read = c .before .process-at .ensures in
+    (omega arith, walk-step (a .image .now) (a .full) (l .i) (l .inv .1) read (c .on .ensures))
 
 returns : tie.Need-returns Inv-loop μ-loop
 returns c =
