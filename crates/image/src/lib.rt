@@ -31,9 +31,9 @@ fn clear(bytes: &mut [u8], count: usize)
 }
 
 impl Ring {
-    pub const LEAST: u64 = 2;
+    pub const LEAST: usize = 2;
 
-    pub const MOST: u64 = 64;
+    pub const MOST: usize = 64;
 
     // The fresh ring call: an image of n processes that is all zero but for n and for the envelope at home, at the
     // start of a buffer whose further bytes stay. Refused with 1 for n, 2 for home, 3 for the buffer.
@@ -41,10 +41,10 @@ impl Ring {
         ensures answer { λ r. ⌜ told r ≡ freshAnswer n home (now (image .entry)) ⌝ }
         ensures buffer { λ _. ⌜ now (image .exit) ≡ freshImage n home (now (image .entry)) ⌝ }
     {
-        if n < Ring::LEAST {
+        if n < Ring::LEAST as u64 {
             return FreshAnswer::Refused(Refusal::Size);
         }
-        if Ring::MOST < n {
+        if (Ring::MOST as u64) < n {
             return FreshAnswer::Refused(Refusal::Size);
         }
         if n <= home {

@@ -53,10 +53,11 @@ ask s r =
       outcome = r .outcome;
     })
 
--- Pass requests: ask for full if the right has asked for it, then the same for empty.
+-- Pass requests, for one status: ask for s if the right has asked for it.
 unfoldable pub passFor : Status → Reaction → Reaction
 passFor s r = cond (for (r .process .asked) s) (ask s r) r
 
+-- full, then empty
 unfoldable pub pass : Reaction → Reaction
 pass r = passFor empty (passFor full r)
 
@@ -71,7 +72,7 @@ markFor s r =
 unfoldable pub mark : Reaction → Reaction
 mark r = markFor (not (r .envelope .full)) r
 
--- Clear for s: marker s goes off, and where the process is marked for s, the mark goes and its count is one less.
+-- The second half of clear for s: where the process is marked for s, the mark goes and its count is one less.
 unfoldable pub unmark : Status → Reaction → Reaction
 unmark s r =
     cond (for (r .process .mark) s)
@@ -79,9 +80,11 @@ unmark s r =
     (withMark (with (r .process .mark) s false) (r .process)))
     r
 
+-- Clear for s: marker s goes off, then the mark.
 unfoldable pub clear : Status → Reaction → Reaction
 clear s r = unmark s (changed r (withMarker (with (r .envelope .marker) s false) (r .envelope)) (r .process))
 
+-- above 0
 abbrev pub positive : ℕ → Bool
 positive zero = false
 positive (suc n) = true
@@ -221,13 +224,15 @@ place l i r =
     change (change (set l i (r .process)) (left (length l) i) (requested (r .asks)))
     (right (length l) i) (arrived (r .leaves))
 
--- an event at its process of a state: what it does there, its outcome, and the state after it
+-- what an event does at its process
 unfoldable pub reaction : State → Event → Reaction
 reaction st v = react (v .code) (v .message) (st .envelope) (processAt (st .processes) (v .process))
 
+-- one of idle, moved, fill with message, take with message, sent, got
 unfoldable pub outcome : State → Event → Outcome
 outcome st v = reaction st v .outcome
 
+-- the envelope as the event leaves it, and the records with the event placed on them
 unfoldable pub apply : State → Event → State
 apply st v =
     record {

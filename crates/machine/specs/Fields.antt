@@ -11,14 +11,17 @@ use Rattle.machine.specs.declared.Process.{Process}
 abbrev pub Status : Type 0
 Status = Bool
 
+-- 1 in an image
 abbrev pub full : Status
 full = true
 
+-- 0 in an image
 abbrev pub empty : Status
 empty = false
 
 -- ---- a bit for each status
 
+-- neither
 abbrev pub none : Pair
 none = record { full = false; empty = false }
 

@@ -6,6 +6,7 @@ use Rattle.machine.specs.declared.Envelope.{Envelope}
 use Rattle.machine.specs.Fields.{empty, none, blank, withHave}
 use Rattle.machine.specs.Image.{State}
 
+-- empty, with nothing wanted and nobody marked
 abbrev pub freshEnvelope : Envelope
 freshEnvelope = record { full = empty; marker = none; marked = record { full = 0; empty = 0 }; message = 0 }
 

@@ -53,27 +53,31 @@ processesIn s n = tabulate (processIn s) 0 n
 abbrev pub sizeIn : List ℕ → ℕ
 sizeIn s = getD s 0 0
 
+-- the state that an image stands for
 unfoldable pub stateIn : List ℕ → State
 stateIn s = record { envelope = envelopeIn s; processes = processesIn s (sizeIn s) }
 
 -- ---- writing
 
+-- full is the lower bit
 abbrev pub pairBits : Pair → ℕ
 pairBits p = bit (p .full) + 2 * bit (p .empty)
 
+-- byte 1 of a record: bit 0 have, 1 arriving, 2 news
 abbrev pub flagBits : Process → ℕ
 flagBits p = bit (p .have) + 2 * bit (p .arriving) + 4 * bit (p .news)
 
+-- byte 2 of a record: bits 0, 1 asked by the right; 2, 3 asked itself; 4, 5 marked; 6, 7 on the link from the right
 abbrev pub requestBits : Process → ℕ
 requestBits p = pairBits (p .asked) + 4 * pairBits (p .itself) + 16 * pairBits (p .mark) + 64 * pairBits (p .link)
 
--- the 16 bytes of a header
+-- the 16 bytes of a header; those that it doesn't name are 0
 unfoldable pub headerBytes : ℕ → Envelope → List ℕ
 headerBytes n e =
     (n ∷ bit (e .full) ∷ pairBits (e .marker) ∷ e .marked .full ∷ e .marked .empty ∷ 0 ∷ 0 ∷ 0 ∷ [])
     ++ (bytes 4 (e .message) ++ (0 ∷ 0 ∷ 0 ∷ 0 ∷ []))
 
--- the 8 bytes of a record
+-- the 8 bytes of a record; byte 3 is 0
 unfoldable pub processBytes : Process → List ℕ
 processBytes p = (p .stage ∷ flagBits p ∷ requestBits p ∷ 0 ∷ []) ++ bytes 4 (p .note)
 
@@ -82,6 +86,7 @@ unfoldable pub recordBytes : List Process → List ℕ
 recordBytes [] = []
 recordBytes (p ∷ ps) = processBytes p ++ recordBytes ps
 
+-- an image: the header, then a record for each process
 unfoldable pub imageBytes : State → List ℕ
 imageBytes st = headerBytes (length (st .processes)) (st .envelope) ++ recordBytes (st .processes)
 
@@ -89,9 +94,10 @@ imageBytes st = headerBytes (length (st .processes)) (st .envelope) ++ recordByt
 unfoldable pub imageWith : List ℕ → State → List ℕ
 imageWith s st = splice s 0 (imageBytes st)
 
--- a buffer with one record written, and with the envelope's header written
+-- a buffer with the record of process i written
 unfoldable pub withProcess : List ℕ → ℕ → Process → List ℕ
 withProcess s i p = splice s (recordAt i) (processBytes p)
 
+-- a buffer with the header written, N as it stands
 unfoldable pub withEnvelope : List ℕ → Envelope → List ℕ
 withEnvelope s e = splice s 0 (headerBytes (sizeIn s) e)

@@ -60,9 +60,11 @@ first f i (suc k) = orElse (f i) (first f (i + 1) k)
 
 -- ---- 1 and 2: arguments
 
+-- N is 2 to 64
 unfoldable pub sizeVerdict : ℕ → Verdict
 sizeVerdict n = unless (sizeFits n) refusal.Size
 
+-- the home is below N
 unfoldable pub homeVerdict : ℕ → ℕ → Verdict
 homeVerdict n home = unless (ltb home n) refusal.Home
 
@@ -104,9 +106,11 @@ unfoldable pub lengthVerdict : ℕ → ℕ → ℕ → List ℕ → Verdict
 lengthVerdict unit least most s =
     unless (eqb (length s % unit) 0 && leb least (length s / unit) && leb (length s / unit) most) refusal.Length
 
+-- a tape has at most so many blocks
 abbrev pub mostBlocks : ℕ
 mostBlocks = 65536
 
+-- so a list has at most so many events
 abbrev pub mostEvents : ℕ
 mostEvents = 63 * 65536
 
@@ -118,6 +122,7 @@ listVerdict codes n s =
 
 -- ---- 7, 8, 5, 9: a block of a tape
 
+-- 7: the check is that of the block's own bytes
 unfoldable pub checkVerdict : List ℕ → ℕ → Verdict
 checkVerdict s b = unless (eqb (check (covered s b)) (blockCheck s b)) (refusal.Check b)
 
@@ -127,19 +132,21 @@ blockFits s b =
     eqb (blockNumber s b) b && leb 1 (blockCount s b) && leb (blockCount s b) 63
     && (eqb (blockCount s b) 63 || eqb (b + 1) (length s / 512))
 
+-- 8: number and count are the block's
 unfoldable pub numberVerdict : List ℕ → ℕ → Verdict
 numberVerdict s b = unless (blockFits s b) (refusal.Block b)
 
--- the slots below the count are events
+-- 5: the slots below the count are events
 unfoldable pub usedVerdict : ℕ → ℕ → List ℕ → ℕ → Verdict
 usedVerdict codes n s b =
     first (λ j. unless (eventFits codes n s (slotAt b j)) (refusal.Event (63 * b + j))) 0 (blockCount s b)
 
--- the slots from the count on are zero
+-- 9: the slots from the count on are zero
 unfoldable pub unusedVerdict : List ℕ → ℕ → Verdict
 unusedVerdict s b =
     unless (zeros s (slotAt b (blockCount s b)) (8 * (63 - blockCount s b))) (refusal.Unused b)
 
+-- in this order
 unfoldable pub blockVerdict : ℕ → ℕ → List ℕ → ℕ → Verdict
 blockVerdict codes n s b =
     orElse (checkVerdict s b) (orElse (numberVerdict s b) (orElse (usedVerdict codes n s b) (unusedVerdict s b)))
@@ -151,5 +158,6 @@ tapeVerdict codes n s =
 
 -- ---- 10: an output
 
+-- what is to be written fits
 unfoldable pub outputVerdict : ℕ → List ℕ → Verdict
 outputVerdict needed output = unless (leb needed (length output)) refusal.Output

@@ -39,6 +39,7 @@ unfoldable pub ledgerRecord : ℕ → ℕ → Outcome → List ℕ
 ledgerRecord number process o =
     bytes 4 number ++ ((process ∷ outcomeNumber o ∷ 0 ∷ 0 ∷ []) ++ bytes 4 (outcomeMessage o))
 
+-- what one event adds to the ledger: a record or nothing
 unfoldable pub ledgerEntry : ℕ → ℕ → Outcome → List ℕ
 ledgerEntry number process o = cond (recorded o) (ledgerRecord number process o) []
 
@@ -50,6 +51,7 @@ ledgerFrom number st (v ∷ vs) =
 
 -- ---- the counts
 
+-- the counts of no events
 abbrev pub noCounts : Counts
 noCounts = record { puts = 0; gets = 0; fills = 0; takes = 0; sent = 0; got = 0; idle = 0; records = 0 }
 
@@ -68,17 +70,19 @@ counted code o c =
       records = c .records + bit (recorded o);
     }
 
+-- the counts after events performed from a state on
 unfoldable pub countsFrom : Counts → State → List Event → Counts
 countsFrom c st [] = c
 countsFrom c st (v ∷ vs) = countsFrom (counted (v .code) (outcome st v) c) (apply st v) vs
 
--- in the order of the result
+-- puts and gets started, fills, takes, sent, got, idle, records
 abbrev pub countValues : Counts → List ℕ
 countValues c =
     c .puts ∷ c .gets ∷ c .fills ∷ c .takes ∷ c .sent ∷ c .got ∷ c .idle ∷ c .records ∷ []
 
 -- ---- the state after every event
 
+-- one event after the other
 unfoldable pub after : State → List Event → State
 after st [] = st
 after st (v ∷ vs) = after (apply st v) vs

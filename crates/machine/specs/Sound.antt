@@ -14,11 +14,12 @@ use Rattle.machine.specs.Fields.{Status, full, empty, for, count}
 use Rattle.machine.specs.Image.{State, processIn, stateIn, sizeIn}
 use Rattle.machine.specs.Stages.{lastStage, noted, withEmpty, withFull, markable}
 
--- whether every rule of a list holds
+-- whether every rule of a list holds, where `sofar` says it of those before
 abbrev pub holdsFrom : Bool → List Bool → Bool
 holdsFrom sofar [] = sofar
 holdsFrom sofar (rule ∷ rules) = holdsFrom (sofar && rule) rules
 
+-- whether all of a list's rules hold
 abbrev pub holds : List Bool → Bool
 holds rules = holdsFrom true rules
 
@@ -35,6 +36,7 @@ headerRules s =
     ∷ zeros s 12 4
     ∷ []
 
+-- the header's bytes are in range
 unfoldable pub headerFits : List ℕ → Bool
 headerFits s = holds (headerRules s)
 
@@ -53,9 +55,11 @@ abbrev pub recordRules : ℕ → ℕ → Process → List Bool
 recordRules flags third p =
     leb (p .stage) lastStage ∷ leb flags 7 ∷ markFits full p ∷ markFits empty p ∷ eqb third 0 ∷ noteFits p ∷ []
 
+-- those of process i's record
 abbrev pub recordRulesIn : List ℕ → ℕ → List Bool
 recordRulesIn s i = recordRules (getD s (recordAt i + 1) 0) (getD s (recordAt i + 3) 0) (processIn s i)
 
+-- the bytes of the first n records are in range
 unfoldable pub recordsFit : List ℕ → ℕ → Bool
 recordsFit s n = every n (λ i. holds (recordRulesIn s i))
 
@@ -71,6 +75,7 @@ abbrev pub stageFits : Status → Process → Bool
 stageFits status p =
     (not (withEmpty (p .stage)) || p .have && not status) && (not (withFull (p .stage)) || p .have && status)
 
+-- and so at every process
 unfoldable pub stagesFit : Status → List Process → Bool
 stagesFit status ps = all (stageFits status) ps
 
@@ -83,6 +88,7 @@ markedSet s (p ∷ ps) = bit (for (p .mark) s) + 2 * markedSet s ps
 abbrev pub ones64 : ℕ → ℕ
 ones64 set = onesIn 64 set
 
+-- the count for s equals the marks for s
 abbrev pub countFits : Status → State → Bool
 countFits s st = eqb (ones64 (markedSet s (st .processes))) (count (st .envelope .marked) s)
 
@@ -95,10 +101,12 @@ restRules st =
     ∷ countFits empty st
     ∷ []
 
+-- the rest holds
 unfoldable pub restFits : State → Bool
 restFits st = holds (restRules st)
 
 -- ---- the whole
 
+-- an image is sound if all three parts hold
 unfoldable pub sound : List ℕ → Bool
 sound s = headerFits s && recordsFit s (sizeIn s) && restFits (stateIn s)

@@ -6,9 +6,11 @@ use mathlib.Core.Bool.{Bool, cond, _&&_, _||_}
 use lib.Dec.{eqb, leb}
 use Rattle.machine.specs.Fields.{Status}
 
+-- stages are 0 to this
 abbrev pub lastStage : ℕ
 lastStage = 10
 
+-- from low to high, both included
 abbrev pub within : ℕ → ℕ → ℕ → Bool
 within low high stage = leb low stage && leb stage high
 
@@ -24,13 +26,14 @@ told stage = eqb stage 1 || eqb stage 4 || eqb stage 6 || eqb stage 9
 abbrev pub noted : ℕ → Bool
 noted = within 1 3
 
--- stages that have an empty, a full envelope
+-- these have an empty envelope
 abbrev pub withEmpty : ℕ → Bool
 withEmpty stage = eqb stage 3 || eqb stage 9 || eqb stage 10
 
+-- these have a full envelope
 abbrev pub withFull : ℕ → Bool
 withFull stage = eqb stage 4 || eqb stage 5 || eqb stage 8
 
--- a mark for s stands only here
+-- a mark for s stands only here: for full in 7 to 10, for empty in 2 to 5
 abbrev pub markable : Status → ℕ → Bool
 markable s = cond s (within 7 10) (within 2 5)

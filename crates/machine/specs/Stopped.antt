@@ -9,6 +9,7 @@ use Rattle.machine.specs.Lists.{all}
 use Rattle.machine.specs.Image.{State}
 use Rattle.machine.specs.Events.{react}
 
+-- the outcome of an event that isn't possible
 abbrev pub isIdle : Outcome → Bool
 isIdle Idle = true
 isIdle Moved = false

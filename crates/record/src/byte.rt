@@ -5,27 +5,28 @@ ghost use lib.ListN.{length};
 ghost use mathlib.Core.List.{[], _∷_};
 ghost use Rattle.machine.specs.Bytes.{bit, number, bytes as bytesOf, splice};
 
-// A byte in a wider type.
+// Internal: a byte in a wider type.
 pub fn wide(x: u8) -> usize
     ensures { λ r. ⌜ (r ≡ x) × (r < 256) ⌝ }
 {
     x as usize
 }
 
+// Internal: the same, in 32 bits.
 pub fn wide32(x: u8) -> u32
     ensures { λ r. ⌜ (r ≡ x) × (r < 256) ⌝ }
 {
     x as u32
 }
 
-// A bit as a number.
+// Internal: a bit as a number.
 pub fn digit(b: bool) -> u8
     ensures { λ r. ⌜ (r ≡ bit b) × (r ≤ 1) ⌝ }
 {
     if b { 1 } else { 0 }
 }
 
-// The number of four bytes, lowest first.
+// Internal: the number of four bytes, lowest first.
 pub fn number_at(bytes: &[u8], at: usize) -> u32
     requires { ⌜ at + 4 ≤ length (now bytes) ⌝ }
     ensures { λ r. ⌜ r ≡ number (now (bytes .entry)) at 4 ⌝ }
@@ -36,7 +37,7 @@ pub fn number_at(bytes: &[u8], at: usize) -> u32
         + 16777216 * wide32(bytes[at + 3])
 }
 
-// Four bytes, written.
+// Internal: four bytes, written.
 pub fn put_four(bytes: &mut [u8], at: usize, a: u8, b: u8, c: u8, d: u8)
     requires { ⌜ at + 4 ≤ length (now bytes) ⌝ }
     ensures { λ _. ⌜ now (bytes .exit) ≡ splice (now (bytes .entry)) at (a ∷ b ∷ c ∷ d ∷ []) ⌝ }
@@ -47,7 +48,7 @@ pub fn put_four(bytes: &mut [u8], at: usize, a: u8, b: u8, c: u8, d: u8)
     bytes[at + 3] = d;
 }
 
-// A number as four bytes, lowest first, written.
+// Internal: a number as four bytes, lowest first, written.
 pub fn put_number(bytes: &mut [u8], at: usize, n: u32)
     requires { ⌜ at + 4 ≤ length (now bytes) ⌝ }
     ensures { λ _. ⌜ now (bytes .exit) ≡ splice (now (bytes .entry)) at (bytesOf 4 n) ⌝ }

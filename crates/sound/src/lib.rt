@@ -135,10 +135,10 @@ impl Checked {
             return Checked::Refused(Refusal::Short);
         }
         let n = wide(image[0]);
-        if n < 2 {
+        if n < Ring::LEAST {
             return Checked::Refused(Refusal::Unsound);
         }
-        if 64 < n {
+        if Ring::MOST < n {
             return Checked::Refused(Refusal::Unsound);
         }
         if image.len() < 16 + 8 * n {
