@@ -1,8 +1,7 @@
 // The ring type: its sizes, the neighbours of a process, and the fresh ring call.
 use machine::Refusal;
 ghost use mathlib.Core.Path.{_≡_};
-ghost use Prim.Native.Nat.{_+_, _≤_, _<_};
-ghost use mathlib.Core.Bool.{Bool};
+ghost use Prim.Native.Nat.{_≤_, _<_};
 ghost use lib.ListN.{length, replicate};
 ghost use Rattle.machine.specs.Bytes.{splice};
 ghost use Rattle.machine.specs.Ring as neighbour;
@@ -31,6 +30,7 @@ fn clear(bytes: &mut [u8], count: usize)
 }
 
 impl Ring {
+    // A ring has 2 to 64 processes.
     pub const LEAST: usize = 2;
 
     pub const MOST: usize = 64;

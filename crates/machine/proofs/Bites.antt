@@ -9,10 +9,12 @@ use lib.Dec.{eqb}
 use Rattle.machine.specs.declared.Verdict.the-variants.{Fine, Refused}
 use Rattle.machine.specs.declared.Refusal.the-variants as refusal
 use Rattle.machine.specs.Tape.{blockBytes, padded}
+use Rattle.machine.specs.Ring.{sizeFits}
 use Rattle.machine.specs.Refusals.{lengthVerdict, mostBlocks, mostEvents}
+use Rattle.machine.specs.Refusals.{sizeVerdict, imageVerdict, listVerdict, tapeVerdict}
 use Rattle.machine.specs.Answers.{Answer, freshAnswer, freshImage, stepAnswer, stepImage}
 use Rattle.machine.specs.Answers.{runAnswer, runImage, runLedger, stoppedAnswer, writeAnswer, writeOutput}
-use Rattle.machine.specs.Answers.{readAnswer, readOutput}
+use Rattle.machine.specs.Answers.{readAnswer, readOutput, readVerdict, writeVerdict, runVerdict}
 use Rattle.machine.proofs.Computed.{rules}
 use Rattle.machine.proofs.Edges.{Case, case, edges, edgeCases, altered, having, without}
 use Rattle.machine.proofs.Entries.{done, refused, event, copies, mayFill}
@@ -22,7 +24,7 @@ use Rattle.machine.proofs.Entries.{done, refused, event, copies, mayFil
 abbrev ring : List ℕ
 ring = having 0 0
 
--- a sound image with a fault
+-- the fresh ring with a fault that only the last test of an image finds
 abbrev unsound : List ℕ
 unsound = altered 1 2
 
@@ -118,28 +120,39 @@ tapeCases =
     ∷ case (reading (block 0 63 (puts 63) ++ block 0 1 (event 1 0 7))) (refused 8 1)
     ∷ case (reading (block 0 63 (puts 63) ++ block 1 2 (event 1 0 7 ++ event 1 1 7))) (refused 5 64)
     ∷ case (reading (block 0 63 (puts 63) ++ block 1 1 (event 1 0 7 ++ event 1 0 7))) (refused 9 1)
-    -- 7 before 8, 8 before 5, 5 before 9, a block before the next, the tape before the output
+    -- 6 before 7, 7 before 8, 8 before 5, 5 before 9, a block before the next, the tape before the output
+    ∷ case (reading (damaged 8 0 (block 0 1 (event 1 0 7)) ++ (0 ∷ []))) (refused 6 0)
     ∷ case (reading (damaged 8 0 (block 1 1 (event 1 0 7)))) (refused 7 0)
     ∷ case (reading (block 1 1 (event 2 0 7))) (refused 8 0)
     ∷ case (reading (block 0 1 (event 2 0 7 ++ event 1 0 7))) (refused 5 0)
     ∷ case (reading (block 0 63 (puts 62 ++ event 2 0 0) ++ damaged 8 0 (block 1 1 (event 1 0 7)))) (refused 5 62)
     ∷ case (readAnswer 2 (block 0 1 (event 1 0 7)) (replicate 7 0)) (refused 10 0)
     ∷ case (readAnswer 2 (block 0 1 (event 2 0 7)) []) (refused 5 0)
+    ∷ case (readAnswer 2 (block 0 1 (event 1 0 7 ++ event 1 0 7)) []) (refused 9 0)
     -- the argument before the tape
     ∷ case (readAnswer 1 [] []) (refused 1 0)
     ∷ []
 
+-- the tape of the one event that fills the envelope of mayFill
+abbrev fills : List ℕ
+fills = block 0 1 (event 1 2 0)
+
 abbrev runCases : List Case
 runCases =
-    case (runAnswer mayFill (block 0 1 (event 1 2 0)) (replicate 12 0)) (done (0 ∷ 0 ∷ 1 ∷ 0 ∷ 0 ∷ 0 ∷ 0 ∷ 1 ∷ []))
-    ∷ case (runAnswer mayFill (block 0 1 (event 1 2 0)) (replicate 11 0)) (refused 10 0)
+    case (runAnswer mayFill fills (replicate 12 0)) (done (0 ∷ 0 ∷ 1 ∷ 0 ∷ 0 ∷ 0 ∷ 0 ∷ 1 ∷ []))
+    ∷ case (runAnswer mayFill fills (replicate 11 0)) (refused 10 0)
     -- a run without records takes no bytes
     ∷ case (runAnswer ring (block 0 1 (event 1 7 0)) []) (done (0 ∷ 0 ∷ 0 ∷ 0 ∷ 0 ∷ 0 ∷ 1 ∷ 0 ∷ []))
-    -- the image before the tape, the tape before the ledger
+    ∷ case (runAnswer mayFill [] (replicate 12 0)) (refused 6 0)
+    -- the image before the tape
     ∷ case (runAnswer (take 31 ring) [] []) (refused 3 0)
     ∷ case (runAnswer unsound [] []) (refused 4 0)
-    ∷ case (runAnswer mayFill [] []) (refused 6 0)
-    ∷ case (runAnswer mayFill (block 0 1 (event 2 2 0)) []) (refused 5 0)
+    -- each fault of the tape before the ledger, which has no room for the fill's record
+    ∷ case (runAnswer mayFill (fills ++ (0 ∷ [])) []) (refused 6 0)
+    ∷ case (runAnswer mayFill (damaged 511 1 fills) []) (refused 7 0)
+    ∷ case (runAnswer mayFill (block 1 1 (event 1 2 0)) []) (refused 8 0)
+    ∷ case (runAnswer mayFill (block 0 2 (event 1 2 0 ++ event 2 2 0)) []) (refused 5 1)
+    ∷ case (runAnswer mayFill (block 0 1 (event 1 2 0 ++ event 1 2 0)) []) (refused 9 0)
     ∷ []
 
 abbrev writing : List ℕ → Answer
@@ -161,9 +174,9 @@ writeCases =
 
 -- ---- lent buffers
 
--- a buffer afterwards, as the values of an answer
-abbrev left : List ℕ → Answer
-left buffer = done buffer
+-- a buffer as a call leaves it, as the values of an answer
+abbrev leaves : List ℕ → Answer
+leaves buffer = done buffer
 
 abbrev spare : List ℕ
 spare = replicate 20 255
@@ -171,19 +184,19 @@ spare = replicate 20 255
 -- a refused call leaves every byte, and a done one those beyond what it writes
 abbrev bufferCases : List Case
 bufferCases =
-    case (left (freshImage 2 2 spare)) (left spare)
-    ∷ case (left (freshImage 2 1 (replicate 33 255))) (left (without 0 0 0 ++ (255 ∷ [])))
-    ∷ case (left (stepImage unsound (event 1 0 7))) (left unsound)
-    ∷ case (left (stepImage ring (event 1 8 0))) (left ring)
-    ∷ case (left (stepImage (ring ++ spare) (event 1 1 0))) (left (altered 24 6 ++ spare))
-    ∷ case (left (runImage mayFill (block 0 1 (event 1 2 0)) (replicate 11 0))) (left mayFill)
-    ∷ case (left (runLedger mayFill (block 0 1 (event 1 2 0)) (replicate 11 255))) (left (replicate 11 255))
-    ∷ case (left (runLedger mayFill (block 0 1 (event 1 2 0)) spare))
-    (left ((0 ∷ 0 ∷ 0 ∷ 0 ∷ 1 ∷ 2 ∷ 0 ∷ 0 ∷ 7 ∷ 0 ∷ 0 ∷ 0 ∷ []) ++ replicate 8 255))
-    ∷ case (left (writeOutput 2 (event 1 0 7) spare)) (left spare)
-    ∷ case (left (writeOutput 2 (event 1 0 7) (replicate 512 255 ++ spare))) (left (block 0 1 (event 1 0 7) ++ spare))
-    ∷ case (left (readOutput 2 (block 0 1 (event 2 0 7)) spare)) (left spare)
-    ∷ case (left (readOutput 2 (block 0 1 (event 1 0 7)) spare)) (left (event 1 0 7 ++ replicate 12 255))
+    case (leaves (freshImage 2 2 spare)) (leaves spare)
+    ∷ case (leaves (freshImage 2 1 (replicate 33 255))) (leaves (without 0 0 0 ++ (255 ∷ [])))
+    ∷ case (leaves (stepImage unsound (event 1 0 7))) (leaves unsound)
+    ∷ case (leaves (stepImage ring (event 1 8 0))) (leaves ring)
+    ∷ case (leaves (stepImage (ring ++ spare) (event 1 1 0))) (leaves (altered 24 6 ++ spare))
+    ∷ case (leaves (runImage mayFill fills (replicate 11 0))) (leaves mayFill)
+    ∷ case (leaves (runLedger mayFill fills (replicate 11 255))) (leaves (replicate 11 255))
+    ∷ case (leaves (runLedger mayFill fills spare))
+    (leaves ((0 ∷ 0 ∷ 0 ∷ 0 ∷ 1 ∷ 2 ∷ 0 ∷ 0 ∷ 7 ∷ 0 ∷ 0 ∷ 0 ∷ []) ++ replicate 8 255))
+    ∷ case (leaves (writeOutput 2 (event 1 0 7) spare)) (leaves spare)
+    ∷ case (leaves (writeOutput 2 (event 1 0 7) (replicate 512 255 ++ spare))) (leaves (block 0 1 (event 1 0 7) ++ spare))
+    ∷ case (leaves (readOutput 2 (block 0 1 (event 2 0 7)) spare)) (leaves spare)
+    ∷ case (leaves (readOutput 2 (block 0 1 (event 1 0 7)) spare)) (leaves (event 1 0 7 ++ replicate 12 255))
     ∷ []
 
 -- ---- all of them
@@ -209,19 +222,37 @@ pub every-rule-bites : met cases ≡ true
 unfolding rules mayFill
 every-rule-bites = refl
 
--- what no list here is long enough to show: the most blocks and events pass the test of length, and one more is 6
+-- ---- too long, which no list here is long enough to show
+
+-- the most blocks, the most events pass the test of length
 pub longest-tape : (s : List ℕ) → length s ≡ 512 * 65536 → lengthVerdict 512 1 mostBlocks s ≡ Fine
 unfolding lengthVerdict
 longest-tape s e = rw e
-
-pub longer-tape : (s : List ℕ) → length s ≡ 512 * 65537 → lengthVerdict 512 1 mostBlocks s ≡ Refused refusal.Length
-unfolding lengthVerdict
-longer-tape s e = rw e
 
 pub longest-list : (s : List ℕ) → length s ≡ 8 * 4128768 → lengthVerdict 8 1 mostEvents s ≡ Fine
 unfolding lengthVerdict
 longest-list s e = rw e
 
-pub longer-list : (s : List ℕ) → length s ≡ 8 * 4128769 → lengthVerdict 8 1 mostEvents s ≡ Refused refusal.Length
+-- one more doesn't, whatever the bytes
+longer-tape : (s : List ℕ) → length s ≡ 512 * 65537 → lengthVerdict 512 1 mostBlocks s ≡ Refused refusal.Length
+unfolding lengthVerdict
+longer-tape s e = rw e
+
+longer-list : (s : List ℕ) → length s ≡ 8 * 4128769 → lengthVerdict 8 1 mostEvents s ≡ Refused refusal.Length
 unfolding lengthVerdict
 longer-list s e = rw e
+
+-- so the reader, the writer and the run refuse it 6, at 0
+module _ (n : ℕ) (s output : List ℕ) (size : sizeFits n ≡ true) where
+  pub read-too-long : length s ≡ 512 * 65537 → readAnswer n s output ≡ refused 6 0
+  unfolding readAnswer readVerdict sizeVerdict tapeVerdict
+  read-too-long e = rw (size, longer-tape s e)
+
+  pub write-too-long : length s ≡ 8 * 4128769 → writeAnswer n s output ≡ refused 6 0
+  unfolding writeAnswer writeVerdict sizeVerdict listVerdict
+  write-too-long e = rw (size, longer-list s e)
+
+pub run-too-long : (image s ledger : List ℕ) → imageVerdict image ≡ Fine → length s ≡ 512 * 65537
+    → runAnswer image s ledger ≡ refused 6 0
+unfolding runAnswer runVerdict tapeVerdict
+run-too-long image s ledger fine e = rw (fine, longer-tape s e)

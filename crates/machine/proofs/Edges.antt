@@ -103,7 +103,7 @@ edges =
     ∷ edge (altered 25 8) (altered 25 4)
     ∷ edge (altered 25 128) (altered 25 4)
     ∷ edge (marked 0 1 0 6 0 16) (marked 0 1 0 7 0 16)
-    ∷ edge (marked 1 1 0 5 1 16) (marked 0 1 0 10 1 16)
+    ∷ edge (marked 1 1 0 5 1 16) (marked 1 1 0 8 1 16)
     ∷ edge (marked 0 0 1 1 0 32) (marked 0 0 1 2 0 32)
     ∷ edge (marked 0 0 1 6 0 32) (marked 1 0 1 5 1 32)
     ∷ zeroEdge 19
@@ -124,7 +124,7 @@ edges =
     ++ (edge (altered 3 1) (altered 3 0)
     ∷ edge (altered 4 1) (altered 4 0)
     ∷ edge (marked 0 0 0 7 0 16) (marked 0 1 0 7 0 16)
-    ∷ edge (marked 0 2 0 7 0 16) (marked 0 1 0 7 0 16)
+    ∷ edge (marked 0 2 0 10 1 16) (marked 0 1 0 10 1 16)
     ∷ edge (marked 0 0 0 2 0 32) (marked 0 0 1 2 0 32)
     ∷ edge (marked 0 0 2 2 0 32) (marked 0 0 1 2 0 32)
     ∷ []))))))

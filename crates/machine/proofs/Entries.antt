@@ -11,9 +11,11 @@ use Rattle.machine.specs.Answers.{Answer, freshAnswer, freshImage, stepA
 use Rattle.machine.specs.Answers.{runLedger, stoppedAnswer, writeAnswer, readAnswer}
 use Rattle.machine.proofs.Computed.{rules}
 
+-- a result with these values
 abbrev pub done : List ℕ → Answer
 done values = record { number = 0; values = values }
 
+-- a refusal by its number and its place
 abbrev pub refused : ℕ → ℕ → Answer
 refused number place = record { number = number; values = place ∷ [] }
 
@@ -25,6 +27,7 @@ event p c m = p ∷ c ∷ 0 ∷ 0 ∷ bytes 4 m
 abbrev pub copies : ℕ → List ℕ → List ℕ
 copies n e = join (replicate n e)
 
+-- entry 1's events, in two halves
 unfoldable pub firstTen : List ℕ
 firstTen =
     join

@@ -1,10 +1,10 @@
 -- Soundness of a state that was written: the bytes' own ranges and zeros come from the writing, so what is left are the
 -- rules on the state itself. Assumes nothing.
-use Prim.Native.Nat.{ℕ, _+_, _^_, _<_}
+use Prim.Native.Nat.{ℕ, zero, suc, _+_, _^_, _<_}
 use mathlib.Core.Path.{_≡_, refl, ap, _∙_}
-use mathlib.Core.Bool.{Bool, true, false, _&&_, _||_, and-true}
-use mathlib.Core.List.{List, [], _∷_, _++_}
-use lib.ListN.{length, take, drop}
+use mathlib.Core.Bool.{Bool, true, _&&_, _||_, and-true}
+use mathlib.Core.List.{List, _++_}
+use lib.ListN.{length, take, drop, replicate}
 use lib.Seq.{take-at, drop-at}
 use lib.Dec.{eqb, leb}
 use borrow.Author.Tests.{le-leb}
@@ -19,7 +19,7 @@ use Rattle.machine.specs.Stages.{lastStage}
 use Rattle.machine.specs.Sound.{headerFits, markFits, noteFits, recordRulesIn, holds, recordsFit, restFits, sound}
 use Rattle.machine.specs.Events.{processAt}
 use Rattle.machine.proofs.Lists.{every-same, every-all}
-use Rattle.machine.proofs.Bits.{pair-le, flags-le}
+use Rattle.machine.proofs.Bits.{bit-le, bit-is, pair-le, flags-le}
 use Rattle.machine.proofs.Bytes.{length-bytes, littleEndian-bytes-4, all-zero}
 use Rattle.machine.proofs.Image.{size-written}
 use Rattle.machine.proofs.Readback.{InRange, byte-here, following, record-stands, read-process, afterMessage}
@@ -43,21 +43,10 @@ stateFits st = envelopeFits (st .envelope) && all processFits (st .processes) &&
 zero-message : (m : ℕ) → m < 2 ^ 32 → allZero (bytes 4 m) ≡ eqb m 0
 zero-message m h = all-zero (bytes 4 m) ∙ ap (λ (n : ℕ). eqb n 0) (littleEndian-bytes-4 m h)
 
-bit-status : (b : Bool) → leb (bit b) 1 ≡ true
-bit-status true = refl
-bit-status false = refl
-
-is-full : (b : Bool) → eqb (bit b) 1 ≡ b
-is-full true = refl
-is-full false = refl
-
-three-zeros : allZero (0 ∷ 0 ∷ 0 ∷ []) ≡ true
+no-byte-set : (width : ℕ) → allZero (replicate width 0) ≡ true
 unfolding allZero
-three-zeros = refl
-
-four-zeros : allZero (0 ∷ 0 ∷ 0 ∷ 0 ∷ []) ≡ true
-unfolding allZero
-four-zeros = refl
+no-byte-set zero = refl
+no-byte-set (suc width) = no-byte-set width
 
 header-written : (s : List ℕ) (st : State) → st .envelope .message < 2 ^ 32
     → headerFits (imageWith s st) ≡ envelopeFits (st .envelope)
@@ -72,12 +61,12 @@ header-written s st small =
       header-stands s st,
       message,
       spare,
-      bit-status (e .full),
+      le-leb (bit (e .full)) 1 (bit-le (e .full)),
       le-leb (pairBits (e .marker)) 3 (pair-le (e .marker)),
-      is-full (e .full),
+      bit-is (e .full) (bit (e .full)) refl,
       zero-message (e .message) small,
-      three-zeros,
-      four-zeros,
+      no-byte-set 3,
+      no-byte-set 4,
     )
     (and-true (envelopeFits e))
 

@@ -12,7 +12,8 @@ pub struct Marked {
     pub empty: u8,
 }
 
-// The one envelope, a token that goes round the ring and may carry a message.
+// The one envelope: the token of a token ring, which may carry a message. A marker on it is a pending demand for one of
+// its statuses, and `marked` counts the waiters that it has passed and must come back to.
 pub struct Envelope {
     pub full: bool,
     pub marker: Pair,
@@ -21,8 +22,8 @@ pub struct Envelope {
 }
 
 // A process: a node of the ring with its main, get and put threads. `asked` is asked by the right, `itself` asked the
-// left itself, `link` a request on the link from the right; `news` is for the put thread, and the note is the message
-// to send.
+// left itself, `link` a request on the link from the right. The put thread's `news` is its wake-up flag, a `mark` makes
+// the process a waiter that the envelope counts, and the note is the send buffer: the message to send.
 pub struct Process {
     pub stage: u8,
     pub have: bool,
@@ -35,7 +36,7 @@ pub struct Process {
     pub note: u32,
 }
 
-// What an event was.
+// What an event at a process came to.
 pub enum Outcome {
     Idle,
     Moved,

@@ -10,7 +10,7 @@ use record::header::envelope_at;
 use record::process::process_at;
 ghost use mathlib.Core.Path.{_≡_};
 ghost use Prim.Native.Nat.{_+_, _*_, _^_, _≤_, _<_};
-ghost use lib.ListN.{length, getD};
+ghost use lib.ListN.{length};
 ghost use Rattle.machine.specs.Bytes.{bit};
 ghost use Rattle.machine.specs.Image.{sizeIn};
 ghost use Rattle.machine.specs.Sound as rule;
