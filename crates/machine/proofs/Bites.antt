@@ -102,6 +102,7 @@ tapeCases =
     ∷ case (reading (block 0 1 (event 1 0 7))) (done (8 ∷ []))
     ∷ case (reading (damaged 511 1 (block 0 1 (event 1 0 7)))) (refused 7 0)
     ∷ case (reading (damaged 4 8 (block 0 1 (event 1 0 7)))) (refused 7 0)
+    ∷ case (reading (damaged 7 9 (block 0 1 (event 1 0 7)))) (refused 7 0)
     -- a sum that is 0 mod 65,535 is written 0, never 65,535
     ∷ case (reading (block 0 1 (event 1 0 65533))) (done (8 ∷ []))
     ∷ case (reading (damaged 4 255 (damaged 5 255 (block 0 1 (event 1 0 65533))))) (refused 7 0)
