@@ -74,12 +74,14 @@ number-4 s at =
     )
     (omega arith)
 
+pub zeros-2 : (s : List ℕ) (at : ℕ) → zeros s at 2 ≡ eqb (getD s at 0) 0 && eqb (getD s (at + 1) 0) 0
+zeros-2 s at = rw (zeros-more s at 1, zeros-more s (at + 1) 0, zeros-0 s (at + 1 + 1)) (simp and-true)
+
 pub zeros-3 : (s : List ℕ) (at : ℕ)
     → zeros s at 3 ≡ eqb (getD s at 0) 0 && eqb (getD s (at + 1) 0) 0 && eqb (getD s (at + 2) 0) 0
 zeros-3 s at =
     let two : at + 1 + 1 ≡ at + 2 = omega arith in
-    rw (zeros-more s at 2, zeros-more s (at + 1) 1, two, zeros-more s (at + 2) 0, zeros-0 s (at + 2 + 1))
-    (simp (and-true, and-assoc))
+    rw (zeros-more s at 2, zeros-2 s (at + 1), two) (simp and-assoc)
 
 -- ---- a number written and read back
 

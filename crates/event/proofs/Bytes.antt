@@ -1,0 +1,52 @@
+-- An event's bytes as code reads and tests them. Assumes nothing.
+use Prim.Native.Nat.{ℕ, _+_}
+use mathlib.Core.Path.{_≡_, refl, sym, _∙_}
+use mathlib.Core.List.{List}
+use mathlib.Core.Bool.{Bool, true, false, _&&_, _||_}
+use native.Mathlib.Omega.{arith}
+use lib.ListN.{length, getD}
+use lib.Dec.{eqb, ltb}
+use borrow.Author.Tests.{ne-eqb}
+use Rattle.machine.specs.declared.Refusal.the-variants as refusal
+use Rattle.machine.specs.Bytes.{number}
+use Rattle.machine.specs.Tape.{eventIn}
+use Rattle.machine.specs.Refusals.{codes, eventFits, eventVerdict}
+use Rattle.machine.proofs.Bytes.{zeros-2, zeros-number}
+use Rattle.event.specs.declared.Parsed.the-variants.{Done, Refused}
+use Rattle.event.specs.declared.Event.{Event}
+use Rattle.event.specs.Parsed.{eventOf, parsedAs}
+
+pub or-true : (b : Bool) → true ≡ b || true
+or-true true = refl
+or-true false = refl
+
+module _ (s : List ℕ) (at : ℕ) {process message : ℕ} (first : process ≡ getD s at 0)
+    (last : message ≡ number s (at + 4) 4) where
+  pub fits-read : (n codes : ℕ)
+      → ltb process n && ltb (getD s (at + 1) 0) codes && (eqb (getD s (at + 2) 0) 0 && eqb (getD s (at + 3) 0) 0)
+      && (eqb (getD s (at + 1) 0) 0 || eqb message 0)
+      ≡ eventFits codes n s at
+  unfolding eventFits
+  fits-read n codes =
+      let third : at + 2 + 1 ≡ at + 3 = omega arith in
+      rw (first, last, zeros-2 s (at + 2), third, zeros-number s (at + 4) 4)
+
+  pub event-read : record { process = process; code = getD s (at + 1) 0; message = message } ≡ eventOf (eventIn s at)
+  unfolding eventIn
+  event-read = rw (first, last)
+
+module _ (n : ℕ) (s : List ℕ) where
+  pub parsed-ragged : (length s ≡ 8 → ⊥)
+      → Refused (refusal.Event 0) ≡ parsedAs (eventVerdict codes n s) (eventIn s 0)
+  unfolding eventVerdict
+  parsed-ragged h = rw (ne-eqb (length s) 8 h)
+
+  module _ {fits : Bool} (whole : length s ≡ 8) (test : fits ≡ eventFits codes n s 0) where
+    pub parsed-fits : fits ≡ true → {v : Event} → v ≡ eventOf (eventIn s 0)
+        → Done v ≡ parsedAs (eventVerdict codes n s) (eventIn s 0)
+    unfolding eventVerdict
+    parsed-fits h e = rw (whole, sym test ∙ h, e)
+
+    pub parsed-unfit : fits ≡ false → Refused (refusal.Event 0) ≡ parsedAs (eventVerdict codes n s) (eventIn s 0)
+    unfolding eventVerdict
+    parsed-unfit h = rw (whole, sym test ∙ h)

@@ -1,0 +1,49 @@
+use Rattle.event.proofs.Codes.{request-heard, no-request}
+use borrow.Author.Needs.{needs}
+use Rattle.event.proofs.hear.Statement.{statement}
+use Rattle.event.proofs.hear.Tie as tie
+use Rattle.event.proofs.hear.Reads as reads
+use Rattle.event.proofs.hear.Lts as lts
+use Rattle.event.proofs.becomes.Reads as becomes-reads
+use Rattle.put.proofs.pair_for.Reads as pair-for-reads
+use Rattle.put.proofs.pair_with.Reads as pair-with-reads
+
+-- src/lib.rt:135:8
+pair-for-requires : tie.Need-pair-for-requires
+pair-for-requires c κs = tt
+
+-- src/lib.rt:137:9
+pair-with-requires : tie.Need-pair-with-requires
+pair-with-requires c κs = tt
+
+-- src/lib.rt:138:9
+pair-with-requires-2 : tie.Need-pair-with-requires-2
+pair-with-requires-2 c κs = tt
+
+-- src/lib.rt:140:9
+becomes-requires : tie.Need-becomes-requires
+becomes-requires c κs = tt
+
+-- src/lib.rt:140:9
+returns : tie.Need-returns
+returns c = let tested = c .before .before .before in let a = tested .before .before .before .before .args in request-heard (a .e) (a .p) (a .full) (tested .before .pair-for .ensures) (tested .if1 .taken) (c .before .before .pair-with .ensures) (c .before .pair-with2 .ensures) (c .becomes .ensures)
+
+-- src/lib.rt:142:5
+becomes-requires-2 : tie.Need-becomes-requires-2
+becomes-requires-2 c κs = tt
+
+-- src/lib.rt:130:1
+returns-2 : tie.Need-returns-2
+returns-2 c = let a = c .before .before .before .before .before .args in no-request (a .e) (a .p) (a .full) (c .before .before .pair-for .ensures) (c .before .if1 .left) (c .becomes2 .ensures)
+
+pub hear-spec : {M : Type 1} → statement M
+hear-spec =
+    tie.close
+    (tie.spec
+    pair-for-requires
+    pair-with-requires
+    pair-with-requires-2
+    becomes-requires
+    returns
+    becomes-requires-2
+    returns-2)
