@@ -16,3 +16,13 @@ pub mod Walk
 pub mod Stored
 pub mod Refusals
 pub mod Fresh
+pub mod Sums
+pub mod Owed
+pub mod Settled
+pub mod Puts
+pub mod Reactions
+pub mod Placed
+pub mod Ranges
+pub mod Octets
+pub mod Facts
+pub mod Kept

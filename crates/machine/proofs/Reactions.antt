@@ -1,0 +1,178 @@
+-- The eight events, each settled at its own process: a put by its parts (Owed), every other event at the stages where
+-- it is possible. Assumes nothing.
+use Prim.Native.Nat.{ℕ, _+_, _≤_}
+use mathlib.Core.Path.{_≡_, refl, sym, ap, subst}
+use mathlib.Core.Bool.{Bool, true, false, not, _&&_, _||_}
+use mathlib.Core.Logic.{inl, inr}
+use native.Mathlib.Omega.{arith}
+use lib.Dec.{eqb, leb}
+use borrow.Author.Tests.{eqb-true}
+use Rattle.machine.specs.declared.Envelope.{Envelope}
+use Rattle.machine.specs.declared.Process.{Process}
+use Rattle.machine.specs.Bytes.{bit}
+use Rattle.machine.specs.Fields.{Status, full, empty, for, count, withStage}
+use Rattle.machine.specs.Stages.{lastStage, told, withEmpty, withFull}
+use Rattle.machine.specs.Sound.{noteFits, stageFits}
+use Rattle.machine.specs.Events.{idle, startPut, startGet, work, signal, receive, hear, react}
+use Rattle.machine.proofs.Lists.{and-first}
+use Rattle.machine.proofs.Sums.{flagsSet, marksFor}
+use Rattle.machine.proofs.Owed.{by-test}
+use Rattle.machine.proofs.Settled.{FitsOf, Fits, Settled, either-way, has-come, follows, marks-follow, at-stage}
+use Rattle.machine.proofs.Settled.{still}
+use Rattle.machine.proofs.Puts.{put-settled}
+
+module _ (e : Envelope) (p : Process) (fits : Fits e p) where
+  -- an event that is not possible
+  nothing : Settled e p (idle e p)
+  nothing = still e p fits fits (inr refl)
+
+  -- ---- main's events
+
+  -- code 0: stage 0 to 1
+  start-put : (message : ℕ) → Settled e p (startPut message e p)
+  unfolding startPut
+  start-put message =
+      by-test (Settled e p) (eqb (p .stage) 0) _ _
+      (λ found.
+      let f = at-stage e p fits 0 found in
+      still e p fits
+      (record {
+        envelope = f .envelope;
+        range = refl;
+        marked = marks-follow 0 1 (p .mark) refl (f .marked);
+        note-fits = refl;
+        has = refl;
+      })
+      (inr refl))
+      (λ _. nothing)
+
+  -- code 1: stage 0 to 6
+  start-get : Settled e p (startGet e p)
+  unfolding startGet
+  start-get =
+      by-test (Settled e p) (eqb (p .stage) 0) _ _
+      (λ found.
+      let f = at-stage e p fits 0 found in
+      still e p fits
+      (record {
+        envelope = f .envelope;
+        range = refl;
+        marked = marks-follow 0 6 (p .mark) refl (f .marked);
+        note-fits = f .note-fits;
+        has = refl;
+      })
+      (inr refl))
+      (λ _. nothing)
+
+  -- code 2: stage 3 to 4 and 8 to 9, where the process has the envelope and its status changes
+  work-settled : Settled e p (work e p)
+  unfolding work
+  work-settled =
+      by-test (Settled e p) (eqb (p .stage) 3) _ _
+      (λ found.
+      let f = at-stage e p fits 3 found in
+      let had = and-first (p .have) (not (e .full)) (and-first (p .have && not (e .full)) true (f .has)) in
+      still e p fits
+      (record {
+        envelope = refl;
+        range = refl;
+        marked = marks-follow 3 4 (p .mark) refl (f .marked);
+        note-fits = refl;
+        has = rw had;
+      })
+      (inl had))
+      (λ _. by-test (Settled e p) (eqb (p .stage) 8) _ _
+      (λ found.
+      let f = at-stage e p fits 8 found in
+      let had = and-first (p .have) (e .full) (f .has) in
+      still e p fits
+      (record {
+        envelope = refl;
+        range = refl;
+        marked = marks-follow 8 9 (p .mark) refl (f .marked);
+        note-fits = f .note-fits;
+        has = rw had;
+      })
+      (inl had))
+      (λ _. nothing))
+
+  -- ---- the get thread's events
+
+  -- code 3: 1 to 2, 4 to 5, 6 to 7, 9 to 10
+  signal-settled : Settled e p (signal e p)
+  unfolding signal
+  signal-settled =
+      by-test (Settled e p) (told (p .stage)) _ _ (λ is-told. still e p fits (next is-told) (inr refl)) (λ _. nothing)
+    where
+      step : (k : ℕ) → eqb (p .stage) k ≡ true → leb (k + 1) lastStage ≡ true → follows k (k + 1) ≡ true
+          → noteFits (withStage (k + 1) p) ≡ true
+          → stageFits (e .full) (withStage (k + 1) p) ≡ true
+          → FitsOf (e .full) (e .message) (p .stage + 1) (p .have) (p .mark) (p .note)
+      step k found range follow note has =
+          subst (λ (n : ℕ). FitsOf (e .full) (e .message) (n + 1) (p .have) (p .mark) (p .note))
+          (sym (eqb-true (p .stage) k found))
+          (record {
+            envelope = fits .envelope;
+            range = range;
+            marked = marks-follow k (k + 1) (p .mark) follow (at-stage e p fits k found .marked);
+            note-fits = note;
+            has = has;
+          })
+
+      next : told (p .stage) ≡ true → FitsOf (e .full) (e .message) (p .stage + 1) (p .have) (p .mark) (p .note)
+      next =
+          either-way (eqb (p .stage) 1 || eqb (p .stage) 4 || eqb (p .stage) 6) (eqb (p .stage) 9)
+          (either-way (eqb (p .stage) 1 || eqb (p .stage) 4) (eqb (p .stage) 6)
+          (either-way (eqb (p .stage) 1) (eqb (p .stage) 4)
+          (λ found. step 1 found refl refl refl refl)
+          (λ found. step 4 found refl refl (at-stage e p fits 4 found .note-fits) (at-stage e p fits 4 found .has)))
+          (λ found. step 6 found refl refl (at-stage e p fits 6 found .note-fits) refl))
+          (λ found. step 9 found refl refl (at-stage e p fits 9 found .note-fits) (at-stage e p fits 9 found .has))
+
+  -- code 4: the arriving flag becomes the have flag, which was off
+  receive-settled : flagsSet p ≤ 1 → Settled e p (receive e p)
+  unfolding receive
+  receive-settled alone =
+      by-test (Settled e p) (p .arriving) _ _
+      (λ comes.
+      let off = away comes (p .have) refl in
+      record {
+        fits =
+            record {
+              envelope = fits .envelope;
+              range = fits .range;
+              marked = fits .marked;
+              note-fits = fits .note-fits;
+              has = has-come (withEmpty (p .stage)) (withFull (p .stage)) (p .have) (e .full) off (fits .has);
+            };
+        flags = omega (arith, ap bit off, ap bit comes);
+        status = inr refl;
+        tally = λ s. refl;
+      })
+      (λ _. nothing)
+    where
+      away : p .arriving ≡ true → (b : Bool) → p .have ≡ b → b ≡ false
+      away comes true had = absurd (omega (arith, ap bit had, ap bit comes))
+      away comes false had = refl
+
+  -- codes 5 and 6
+  hear-settled : (s : Status) → Settled e p (hear s e p)
+  unfolding hear
+  hear-settled s =
+      by-test (Settled e p) (for (p .link) s) _ _ (λ _. still e p fits fits (inr refl)) (λ _. nothing)
+
+  -- ---- any event, by its code
+
+  -- a code above 7 is not possible
+  pub react-settled : (code message : ℕ) → flagsSet p ≤ 1 → ((s : Status) → marksFor s p ≤ count (e .marked) s)
+      → Settled e p (react code message e p)
+  unfolding react
+  react-settled code message alone own =
+      by-test (Settled e p) (eqb code 0) _ _ (λ _. start-put message)
+      (λ _. by-test (Settled e p) (eqb code 1) _ _ (λ _. start-get)
+      (λ _. by-test (Settled e p) (eqb code 2) _ _ (λ _. work-settled)
+      (λ _. by-test (Settled e p) (eqb code 3) _ _ (λ _. signal-settled)
+      (λ _. by-test (Settled e p) (eqb code 4) _ _ (λ _. receive-settled alone)
+      (λ _. by-test (Settled e p) (eqb code 5) _ _ (λ _. hear-settled full)
+      (λ _. by-test (Settled e p) (eqb code 6) _ _ (λ _. hear-settled empty)
+      (λ _. by-test (Settled e p) (eqb code 7) _ _ (λ _. put-settled e p fits own) (λ _. nothing))))))))

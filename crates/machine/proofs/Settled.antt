@@ -1,0 +1,171 @@
+-- What an event owes at its own process, when it is done: the new record and envelope fit again, a flag that goes off
+-- leaves with the envelope, the status changes only where the envelope is, and each count changes by just the process's
+-- own mark. Shown here of an event that touches no flag and no mark, and of a put from what its parts owe (Owed).
+-- Assumes nothing.
+use Prim.Native.Nat.{ℕ, _+_}
+use mathlib.Core.Path.{_≡_, refl, ap, subst, _∙_}
+use mathlib.Core.Bool.{Bool, true, false, not, cond, _&&_, _||_, true≢false, false≢true}
+use mathlib.Core.Logic.{_⊎_, inr}
+use native.Mathlib.Omega.{arith}
+use lib.Dec.{eqb, leb}
+use borrow.Author.Tests.{eqb-true}
+use Rattle.machine.specs.declared.Pair.{Pair}
+use Rattle.machine.specs.declared.Envelope.{Envelope}
+use Rattle.machine.specs.declared.Process.{Process}
+use Rattle.machine.specs.declared.Outcome.{Outcome}
+use Rattle.machine.specs.declared.Reaction.{Reaction}
+use Rattle.machine.specs.Bytes.{bit}
+use Rattle.machine.specs.Fields.{Status, full, empty, for, count, holding, processOf}
+use Rattle.machine.specs.Stages.{lastStage, plain, noted, withEmpty, withFull, markable}
+use Rattle.machine.specs.Events.{becomes, ends}
+use Rattle.machine.proofs.Lists.{and-first, and-second}
+use Rattle.machine.proofs.Sums.{flagsSet, marksFor}
+use Rattle.machine.proofs.Owed.{Owed}
+
+-- ---- what fits at one process
+
+-- by the parts of an envelope and a record that a rule of soundness reads
+pub record FitsOf (status : Status) (message stage : ℕ) (have : Bool) (marks : Pair) (note : ℕ) : Type 0 where
+  pub envelope : status || eqb message 0 ≡ true
+  pub range : leb stage lastStage ≡ true
+  pub marked : (s : Status) → not (for marks s) || markable s stage ≡ true
+  pub note-fits : noted stage || eqb note 0 ≡ true
+  pub has : (not (withEmpty stage) || have && not status) && (not (withFull stage) || have && status) ≡ true
+
+-- the same by the envelope and the record
+abbrev pub Fits : Envelope → Process → Type 0
+Fits e p = FitsOf (e .full) (e .message) (p .stage) (p .have) (p .mark) (p .note)
+
+-- what an event at p comes to
+pub record Settled (e : Envelope) (p : Process) (r : Reaction) : Type 0 where
+  pub fits : Fits (r .envelope) (r .process)
+  pub flags : flagsSet (r .process) + bit (r .leaves) ≡ flagsSet p
+  pub status : (p .have ≡ true) ⊎ (r .envelope .full ≡ e .full)
+  pub tally : (s : Status)
+      → count (r .envelope .marked) s + marksFor s p ≡ count (e .marked) s + marksFor s (r .process)
+
+-- ---- laws of tests
+
+-- what follows from either side of an `or`
+pub either-way : {A : Type 0} (a b : Bool) → (a ≡ true → A) → (b ≡ true → A) → a || b ≡ true → A
+either-way true b one other e = one refl
+either-way false b one other e = other e
+
+-- a stage that needs the envelope
+abbrev pub needs : ℕ → Bool
+needs stage = withEmpty stage || withFull stage
+
+-- the stages that the put thread treats alike don't
+pub plain-free : (stage : ℕ) → plain stage ≡ true → needs stage ≡ false
+plain-free stage =
+    either-way (eqb stage 0 || eqb stage 1) (eqb stage 6)
+    (either-way (eqb stage 0) (eqb stage 1) (λ e. at 0 e refl) (λ e. at 1 e refl))
+    (λ e. at 6 e refl)
+  where
+    at : (k : ℕ) → eqb stage k ≡ true → needs k ≡ false → needs stage ≡ false
+    at k e free = ap needs (eqb-true stage k e) ∙ free
+
+-- a record that doesn't need the envelope fits without it
+has-left : (a b had status leaves : Bool) → (leaves ≡ true → a || b ≡ false)
+    → (not a || had && not status) && (not b || had && status) ≡ true
+    → (not a || cond leaves false had && not status) && (not b || cond leaves false had && status) ≡ true
+has-left a b had status false free h = h
+has-left true b had status true free h = absurd (true≢false (free refl))
+has-left false true had status true free h = absurd (true≢false (free refl))
+has-left false false had status true free h = refl
+
+-- and with it fits whatever fitted before
+pub has-come : (a b had status : Bool) → had ≡ false → (not a || had && not status) && (not b || had && status) ≡ true
+    → (not a || true && not status) && (not b || true && status) ≡ true
+has-come a b true status off h = absurd (true≢false off)
+has-come true b false status off h = absurd (false≢true h)
+has-come false true false status off h = absurd (false≢true h)
+has-come false false false status off h = refl
+
+-- a have flag that goes off leaves with the envelope
+flags-left : (leaves had : Bool) (a : ℕ) → (leaves ≡ true → had ≡ true)
+    → bit (cond leaves false had) + a + bit leaves ≡ bit had + a
+flags-left true had a h = omega (arith, ap bit (h refl))
+flags-left false had a h = omega arith
+
+-- where stage k may have a mark, stage j may have it too
+abbrev pub follows : ℕ → ℕ → Bool
+follows k j = (not (markable full k) || markable full j) && (not (markable empty k) || markable empty j)
+
+-- so marks that fit k fit j
+pub marks-follow : (k j : ℕ) (m : Pair) → follows k j ≡ true
+    → ((s : Status) → not (for m s) || markable s k ≡ true)
+    → (s : Status) → not (for m s) || markable s j ≡ true
+marks-follow k j m f h s = go s (for m s) (h s)
+  where
+    step : (a b : Bool) → not a || b ≡ true → a ≡ true → b ≡ true
+    step true b e t = e
+    step false b e t = absurd (false≢true t)
+
+    may : (s : Status) → not (markable s k) || markable s j ≡ true
+    may true = and-first _ (not (markable empty k) || markable empty j) f
+    may false = and-second (not (markable full k) || markable full j) _ f
+
+    go : (s : Status) (b : Bool) → not b || markable s k ≡ true → not b || markable s j ≡ true
+    go s true e = step (markable s k) (markable s j) (may s) e
+    go s false e = refl
+
+-- ---- from what is owed to what fits
+
+module _ (e : Envelope) (p : Process) (fits : Fits e p) where
+  -- what fits at the stage that a test found
+  pub at-stage : (k : ℕ) → eqb (p .stage) k ≡ true → FitsOf (e .full) (e .message) k (p .have) (p .mark) (p .note)
+  at-stage k found =
+      subst (λ (n : ℕ). FitsOf (e .full) (e .message) n (p .have) (p .mark) (p .note))
+      (eqb-true (p .stage) k found) fits
+
+  -- an event that touches no flag of the envelope's place and no mark
+  pub still : {o : Outcome} {status : Status} {message stage : ℕ} {news : Bool} {asked link : Pair} {note : ℕ}
+      → FitsOf status message stage (p .have) (p .mark) note
+      → (p .have ≡ true) ⊎ (status ≡ e .full)
+      → Settled e p (becomes o (holding status message e)
+      (processOf stage (p .have) (p .arriving) news asked (p .itself) (p .mark) link note))
+  still fit same = record { fits = fit; flags = omega arith; status = same; tally = λ s. refl }
+
+  -- the end of a put's parts, where the envelope leaves only a stage that doesn't need it
+  pub settle : (r : Reaction) → Owed e p r → (r .leaves ≡ true → needs (p .stage) ≡ false) → Settled e p r
+  settle r o free =
+      record {
+        fits =
+            record {
+              envelope = rw (o .status-same, o .message-same) (fits .envelope);
+              range = rw (o .stage-same) (fits .range);
+              marked = o .marks-fit;
+              note-fits = rw (o .stage-same, o .note-same) (fits .note-fits);
+              has =
+                  rw (o .status-same, o .stage-same, o .have-left)
+                  (has-left (withEmpty (p .stage)) (withFull (p .stage)) (p .have) (e .full) (r .leaves) free
+                  (fits .has));
+            };
+        flags =
+            rw (o .have-left, o .arriving-same) (flags-left (r .leaves) (p .have) (bit (p .arriving)) (o .leaving));
+        status = inr (o .status-same);
+        tally = o .tally;
+      }
+
+  -- a put or a get that ends, with no mark and no note left
+  pub settle-end : (o : Outcome) (r : Reaction) → Owed e p r → ((s : Status) → for (r .process .mark) s ≡ false)
+      → eqb (p .note) 0 ≡ true
+      → Settled e p (ends o r)
+  unfolding ends
+  settle-end o r owed unmarked blank-note =
+      record {
+        fits =
+            record {
+              envelope = rw (owed .status-same, owed .message-same) (fits .envelope);
+              range = refl;
+              marked = λ s. ap (λ (b : Bool). not b || markable s 0) (unmarked s);
+              note-fits = rw (owed .note-same) blank-note;
+              has = refl;
+            };
+        flags =
+            rw (owed .have-left, owed .arriving-same)
+            (flags-left (r .leaves) (p .have) (bit (p .arriving)) (owed .leaving));
+        status = inr (owed .status-same);
+        tally = owed .tally;
+      }
