@@ -1,14 +1,19 @@
 // An event as a struct by value: read from eight bytes, tested, and applied to the envelope and to its process's record.
 // What it does to a neighbour is handed back too: the neighbour's record follows by `requested` or `arrived`.
 // Document 01, "The eight events".
+use get::becomes;
+use get::hear;
+use get::receive;
+use get::signal;
+use get::start_get;
+use get::start_put;
+use get::work;
 use machine::Envelope;
 use machine::Outcome;
 use machine::Pair;
 use machine::Process;
 use machine::Reaction;
 use machine::Refusal;
-use put::pair_for;
-use put::pair_with;
 use put::put_at;
 use record::byte::number_at;
 use record::byte::wide;
@@ -33,113 +38,6 @@ pub struct Event {
 pub enum Parsed {
     Done(Event),
     Refused(Refusal),
-}
-
-// The record and the envelope become these, and nothing goes to a neighbour.
-fn becomes(outcome: Outcome, e: Envelope, p: Process) -> Reaction
-    ensures { λ r. ⌜ r ≡ rule.becomes outcome e p ⌝ }
-{
-    Reaction {
-        process: p,
-        envelope: e,
-        asks: Pair {
-            full: false,
-            empty: false,
-        },
-        leaves: false,
-        outcome: outcome,
-    }
-}
-
-// Code 0: a put starts.
-fn start_put(message: u32, e: Envelope, p: Process) -> Reaction
-    ensures { λ r. ⌜ r ≡ rule.startPut message e p ⌝ }
-{
-    if p.stage == 0 {
-        let mut q = p;
-        q.stage = 1;
-        q.note = message;
-        return becomes(Outcome::Moved, e, q);
-    }
-    becomes(Outcome::Idle, e, p)
-}
-
-// Code 1: a get starts.
-fn start_get(e: Envelope, p: Process) -> Reaction
-    ensures { λ r. ⌜ r ≡ rule.startGet e p ⌝ }
-{
-    if p.stage == 0 {
-        let mut q = p;
-        q.stage = 6;
-        return becomes(Outcome::Moved, e, q);
-    }
-    becomes(Outcome::Idle, e, p)
-}
-
-// Code 2, main works: it fills or empties the envelope.
-fn work(e: Envelope, p: Process) -> Reaction
-    ensures { λ r. ⌜ r ≡ rule.work e p ⌝ }
-{
-    let mut q = p;
-    let mut f = e;
-    if p.stage == 3 {
-        q.stage = 4;
-        q.note = 0;
-        f.full = true;
-        f.message = p.note;
-        return becomes(Outcome::Fill(p.note), f, q);
-    }
-    if p.stage == 8 {
-        q.stage = 9;
-        f.full = false;
-        f.message = 0;
-        return becomes(Outcome::Take(e.message), f, q);
-    }
-    becomes(Outcome::Idle, e, p)
-}
-
-// Code 3, get takes the local signal.
-fn signal(e: Envelope, p: Process) -> Reaction
-    ensures { λ r. ⌜ r ≡ rule.signal e p ⌝ }
-{
-    let stage = p.stage;
-    if (stage == 1) | (stage == 4) | (stage == 6) | (stage == 9) {
-        let mut q = p;
-        q.stage = stage + 1;
-        q.news = true;
-        return becomes(Outcome::Moved, e, q);
-    }
-    becomes(Outcome::Idle, e, p)
-}
-
-// Code 4, get takes the arriving envelope.
-fn receive(e: Envelope, p: Process) -> Reaction
-    ensures { λ r. ⌜ r ≡ rule.receive e p ⌝ }
-{
-    if p.arriving {
-        let mut q = p;
-        q.arriving = false;
-        q.have = true;
-        q.news = true;
-        return becomes(Outcome::Moved, e, q);
-    }
-    becomes(Outcome::Idle, e, p)
-}
-
-// Codes 5 and 6, get takes the link's request for full or for empty.
-fn hear(full: bool, e: Envelope, p: Process) -> Reaction
-    ensures { λ r. ⌜ r ≡ rule.hear full e p ⌝ }
-{
-    let link = p.link;
-    let asked = p.asked;
-    if pair_for(link, full) {
-        let mut q = p;
-        q.link = pair_with(link, full, false);
-        q.asked = pair_with(asked, full, true);
-        q.news = true;
-        return becomes(Outcome::Moved, e, q);
-    }
-    becomes(Outcome::Idle, e, p)
 }
 
 // Code 7, put: only with news, which it clears.

@@ -16,6 +16,7 @@ pub mod Walk
 pub mod Stored
 pub mod Refusals
 pub mod Fresh
+pub mod Idle
 pub mod Sums
 pub mod Owed
 pub mod Settled
@@ -26,3 +27,4 @@ pub mod Ranges
 pub mod Octets
 pub mod Facts
 pub mod Kept
+pub mod Stopped

@@ -58,7 +58,7 @@ unfolding change
 sum-change w l k g h = sum-set w l k (g (processAt l k)) h
 
 -- no record more or less
-length-change : (l : List Process) (k : ℕ) (g : Process → Process) → length (change l k g) ≡ length l
+pub length-change : (l : List Process) (k : ℕ) (g : Process → Process) → length (change l k g) ≡ length l
 unfolding change
 length-change l k g = length-set l k (g (processAt l k))
 

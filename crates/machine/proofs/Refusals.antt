@@ -2,11 +2,11 @@
 -- Assumes nothing.
 use Prim.Native.Nat.{ℕ, _≤_, _<_}
 use mathlib.Core.Path.{_≡_, refl}
-use mathlib.Core.Bool.{Bool, true, false}
+use mathlib.Core.Bool.{Bool, true, false, _&&_, _||_}
 use mathlib.Core.List.{List}
 use native.Mathlib.Omega.{arith}
-use lib.ListN.{length}
-use lib.Dec.{leb, ltb, lit≤}
+use lib.ListN.{length, getD}
+use lib.Dec.{eqb, leb, ltb, lit≤}
 use borrow.Author.Tests.{leb-true, ltb-true, le-leb, lt-leb, lt-ltb, le-ltb}
 use Rattle.machine.specs.declared.Refusal.{Refusal}
 use Rattle.machine.specs.declared.Refusal.the-variants as refusal
@@ -15,7 +15,10 @@ use Rattle.machine.specs.declared.Verdict.the-variants.{Fine, Refused}
 use Rattle.machine.specs.Ring.{sizeFits, imageLength}
 use Rattle.machine.specs.Image.{sizeIn}
 use Rattle.machine.specs.Sound.{sound}
+use Rattle.machine.specs.Bytes.{zeros}
+use Rattle.machine.specs.Tape.{eventIn}
 use Rattle.machine.specs.Refusals.{numberOf, unless, orElse, sizeVerdict, homeVerdict, roomVerdict, imageVerdict}
+use Rattle.machine.specs.Refusals.{codes, eventFits, eventVerdict}
 use Rattle.machine.specs.Answers.{freshVerdict}
 use Rattle.machine.proofs.Lists.{and-first, and-second}
 
@@ -108,6 +111,18 @@ image-fine s e =
       room = unless-le (imageLength (sizeIn s)) (length s) refusal.Short (first-fine c d from-c);
       fits = unless-fine (sound s) refusal.Unsound (second-fine c d from-c);
     }
+
+-- an accepted event is at a process of the ring
+pub event-below : (n : ℕ) (s : List ℕ) → eventVerdict codes n s ≡ Fine → eventIn s 0 .process < n
+unfolding eventVerdict eventFits eventIn
+event-below n s e =
+    let process = ltb (getD s 0 0) n in
+    let code = ltb (getD s 1 0) codes in
+    let spare = zeros s 2 2 in
+    let message = eqb (getD s 1 0) 0 || zeros s 4 4 in
+    let fits = and-second (eqb (length s) 8) _ (unless-fine _ (refusal.Event 0) e) in
+    ltb-true _ n
+    (and-first process code (and-first (process && code) spare (and-first (process && code && spare) message fits)))
 
 -- ---- each way through the tests of an image
 

@@ -13,9 +13,11 @@ use Rattle.machine.specs.declared.Envelope.{Envelope}
 use Rattle.machine.specs.declared.Process.{Process}
 use Rattle.machine.specs.Ring.{imageLength}
 use Rattle.machine.specs.Fields.{blank}
-use Rattle.machine.specs.Image.{State, sizeIn, stateIn, imageWith, withProcess, withEnvelope}
+use Rattle.machine.specs.Image.{State, envelopeIn, processIn, processesIn, sizeIn, stateIn, imageWith}
+use Rattle.machine.specs.Image.{withProcess, withEnvelope}
 use Rattle.machine.specs.Sound.{sound}
 use Rattle.machine.specs.Events.{processAt}
+use Rattle.machine.proofs.Lists.{getD-tabulate}
 use Rattle.machine.proofs.Bytes.{Bytes}
 use Rattle.machine.proofs.Walk.{length-processes}
 use Rattle.machine.proofs.Image.{replaced, enveloped, write-process, write-envelope}
@@ -25,6 +27,16 @@ use Rattle.machine.proofs.Rewrite.{rewrite-image, read-in-range}
 pub length-state : (s : List ℕ) → length (stateIn s .processes) ≡ sizeIn s
 unfolding stateIn
 length-state s = length-processes s (sizeIn s)
+
+-- a record read by itself is that of the state
+pub read-at : (s : List ℕ) (i : ℕ) → i < sizeIn s → processIn s i ≡ processAt (stateIn s .processes) i
+unfolding stateIn processesIn
+read-at s i h = ap (processIn s) (omega arith) ∙ sym (getD-tabulate (processIn s) 0 (sizeIn s) i blank h)
+
+-- and so is the envelope
+pub read-envelope-at : (s : List ℕ) → envelopeIn s ≡ stateIn s .envelope
+unfolding stateIn
+read-envelope-at s = refl
 
 -- a state with one record replaced is in range
 pub replaced-in-range : (st : State) (i : ℕ) (p : Process) → InRange st → p .note < 2 ^ 32 → InRange (replaced st i p)

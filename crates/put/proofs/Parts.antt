@@ -1,9 +1,8 @@
 -- Each way through a part of a put is that way through its rule. The answers of lower functions are variables here, each
 -- with the rule's value that it is known to be. Assumes nothing.
-use Prim.Native.Nat.{ℕ, zero, suc, pred, _+_, _-_}
+use Prim.Native.Nat.{ℕ, zero, suc, pred}
 use mathlib.Core.Path.{_≡_, refl, sym, _∙_}
 use mathlib.Core.Bool.{Bool, true, false, not, _||_, Bool·beq}
-use native.Mathlib.Numerals.{add-one, sub-one}
 use native.Mathlib.Omega.{arith}
 use lib.Dec.{ltb}
 use borrow.Author.Tests.{lt-ltb}
@@ -16,34 +15,6 @@ use Rattle.machine.specs.Fields.{Status, full, empty, for, with, count, withCou
 use Rattle.machine.specs.Fields.{withStage, withItself, withMark}
 use Rattle.machine.specs.Events.{changed, ask, passFor, pass, markFor, mark, unmark, clear, positive, wanted, leave}
 use Rattle.machine.specs.Events.{heeding, forward, ends, stroll, wait, endPut}
-
--- ---- pairs and counts, by status
-
-module _ (p : Pair) {b : Bool} {s : Status} where
-  pub with-full : s ≡ true → record { full = b; empty = p .empty } ≡ with p s b
-  with-full e = rw e
-
-  pub with-empty : s ≡ false → record { full = p .full; empty = b } ≡ with p s b
-  with-empty e = rw e
-
-module _ (c : Marked) {s : Status} where
-  pub count-full : s ≡ true → count c s ≡ c .full
-  count-full e = rw e
-
-  pub count-empty : s ≡ false → count c s ≡ c .empty
-  count-empty e = rw e
-
-  pub more-full : s ≡ true → record { full = c .full + 1; empty = c .empty } ≡ withCount c s (suc (count c s))
-  more-full e = rw (e, add-one (c .full))
-
-  pub more-empty : s ≡ false → record { full = c .full; empty = c .empty + 1 } ≡ withCount c s (suc (count c s))
-  more-empty e = rw (e, add-one (c .empty))
-
-  pub fewer-full : s ≡ true → record { full = c .full - 1; empty = c .empty } ≡ withCount c s (pred (count c s))
-  fewer-full e = rw (e, sub-one (c .full))
-
-  pub fewer-empty : s ≡ false → record { full = c .full; empty = c .empty - 1 } ≡ withCount c s (pred (count c s))
-  fewer-empty e = rw (e, sub-one (c .empty))
 
 -- ---- ask and pass
 

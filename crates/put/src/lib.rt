@@ -1,76 +1,17 @@
 // What the put thread does with its news: ask, pass, mark, clear, forward, and the decision by stage. Each part takes
 // what the event has come to so far and hands it back with that part done. Document 01, "The eight events", code 7.
 use machine::Envelope;
-use machine::Marked;
 use machine::Outcome;
 use machine::Pair;
 use machine::Process;
 use machine::Reaction;
+use status::one_fewer;
+use status::one_more;
+use status::pair_for;
+use status::pair_with;
 ghost use mathlib.Core.Path.{_≡_};
-ghost use Prim.Native.Nat.{suc, pred, _≤_, _<_};
-ghost use Rattle.machine.specs.Fields.{for, with, count, withCount};
 ghost use Rattle.machine.specs.Events as rule;
 ghost use Rattle.put.specs.Ready.{Ready};
-
-// Internal: the bit for full or for empty.
-pub fn pair_for(p: Pair, full: bool) -> bool
-    ensures { λ r. ⌜ r ≡ for p full ⌝ }
-{
-    if full { p.full } else { p.empty }
-}
-
-// Internal: the pair with that bit as given.
-pub fn pair_with(p: Pair, full: bool, b: bool) -> Pair
-    ensures { λ r. ⌜ r ≡ with p full b ⌝ }
-{
-    if full {
-        Pair {
-            full: b,
-            empty: p.empty,
-        }
-    } else {
-        Pair {
-            full: p.full,
-            empty: b,
-        }
-    }
-}
-
-// One more marked for full or for empty.
-fn one_more(c: Marked, full: bool) -> Marked
-    requires { ⌜ count c full < 255 ⌝ }
-    ensures { λ r. ⌜ r ≡ withCount c full (suc (count c full)) ⌝ }
-{
-    if full {
-        Marked {
-            full: c.full + 1,
-            empty: c.empty,
-        }
-    } else {
-        Marked {
-            full: c.full,
-            empty: c.empty + 1,
-        }
-    }
-}
-
-// One fewer.
-fn one_fewer(c: Marked, full: bool) -> Marked
-    requires { ⌜ 1 ≤ count c full ⌝ }
-    ensures { λ r. ⌜ r ≡ withCount c full (pred (count c full)) ⌝ }
-{
-    if full {
-        Marked {
-            full: c.full - 1,
-            empty: c.empty,
-        }
-    } else {
-        Marked {
-            full: c.full,
-            empty: c.empty - 1,
-        }
-    }
-}
 
 // Ask the left for full or for empty, unless that is asked already.
 fn ask(full: bool, r: Reaction) -> Reaction

@@ -1,31 +1,28 @@
+-- With news the put step by stage, on a record as ready as before; without, it is idle. Assumes nothing.
 use Rattle.event.proofs.Codes.{put-moves, no-news, ready-moved}
-use borrow.Author.Needs.{needs}
 use Rattle.event.proofs.put.Statement.{statement}
 use Rattle.event.proofs.put.Tie as tie
-use Rattle.event.proofs.put.Reads as reads
-use Rattle.event.proofs.put.Lts as lts
-use Rattle.event.proofs.becomes.Reads as becomes-reads
-use Rattle.put.proofs.put_at.Reads as put-at-reads
 
--- src/lib.rt:153:23
 becomes-requires : tie.Need-becomes-requires
 becomes-requires c κs = tt
 
--- src/lib.rt:153:9
 put-at-requires : tie.Need-put-at-requires
-put-at-requires c κs = let start = c .before .before in ready-moved (start .args .e) (start .args .p) (c .becomes .ensures) (start .pre)
+put-at-requires c κs =
+    let start = c .before .before in
+    ready-moved (start .args .e) (start .args .p) (c .becomes .ensures) (start .pre)
 
--- src/lib.rt:153:9
 returns : tie.Need-returns
-returns c = let a = c .before .before .before .args in put-moves (a .e) (a .p) (c .before .before .if1 .taken) (c .before .becomes .ensures) (c .put-at .ensures)
+returns c =
+    let a = c .before .before .before .args in
+    put-moves (a .e) (a .p) (c .before .before .if1 .taken) (c .before .becomes .ensures) (c .put-at .ensures)
 
--- src/lib.rt:155:5
 becomes-requires-2 : tie.Need-becomes-requires-2
 becomes-requires-2 c κs = tt
 
--- src/lib.rt:146:1
 returns-2 : tie.Need-returns-2
-returns-2 c = let a = c .before .before .args in no-news (a .e) (a .p) (c .before .if1 .left) (c .becomes2 .ensures)
+returns-2 c =
+    let a = c .before .before .args in
+    no-news (a .e) (a .p) (c .before .if1 .left) (c .becomes2 .ensures)
 
 pub put-spec : {M : Type 1} → statement M
 put-spec =

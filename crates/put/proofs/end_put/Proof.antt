@@ -1,20 +1,14 @@
+-- The put is over only if the envelope left. Assumes nothing.
 use Rattle.put.proofs.Parts.{end-left, end-stayed}
-use borrow.Author.Needs.{needs}
 use Rattle.put.proofs.end_put.Statement.{statement}
 use Rattle.put.proofs.end_put.Tie as tie
-use Rattle.put.proofs.end_put.Reads as reads
-use Rattle.put.proofs.end_put.Lts as lts
-use Rattle.put.proofs.ends.Reads as ends-reads
 
--- src/lib.rt:233:19
 ends-requires : tie.Need-ends-requires
 ends-requires c κs = tt
 
--- src/lib.rt:230:1
 returns : tie.Need-returns
 returns c = end-left (c .before .before .args .r) (c .before .if1 .taken) (c .ends .ensures)
 
--- src/lib.rt:230:1
 returns-2 : tie.Need-returns-2
 returns-2 c = end-stayed (c .before .args .r) (c .if1 .left)
 

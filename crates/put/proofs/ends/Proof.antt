@@ -1,11 +1,9 @@
-use Rattle.machine.specs.Events as rule
+-- The rule, field by field. Assumes nothing.
 use mathlib.Core.Path.{refl}
+use Rattle.machine.specs.Events as rule
 use Rattle.put.proofs.ends.Statement.{statement}
 use Rattle.put.proofs.ends.Tie as tie
-use Rattle.put.proofs.ends.Reads as reads
-use Rattle.put.proofs.ends.Lts as lts
 
--- src/lib.rt:213:1
 returns : tie.Need-returns
 unfolding rule.ends
 returns c = refl

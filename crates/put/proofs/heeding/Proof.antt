@@ -1,11 +1,9 @@
-use Rattle.machine.specs.Events as rule
+-- The rule, field by field. Assumes nothing.
 use mathlib.Core.Path.{refl}
+use Rattle.machine.specs.Events as rule
 use Rattle.put.proofs.heeding.Statement.{statement}
 use Rattle.put.proofs.heeding.Tie as tie
-use Rattle.put.proofs.heeding.Reads as reads
-use Rattle.put.proofs.heeding.Lts as lts
 
--- src/lib.rt:145:1
 returns : tie.Need-returns
 unfolding rule.heeding
 returns c = refl

@@ -1,81 +1,70 @@
-use Rattle.put.proofs.Stages.{at-low, at-six, at-two, at-seven, at-five, at-ten, at-else}
+-- Each arm of the decision is that arm of the rule, and the stages that no arm names do no more. Assumes nothing.
 use mathlib.Core.Logic.{⊎-elim}
 use native.Mathlib.Omega.{arith}
-use borrow.Author.Needs.{needs}
+use Rattle.put.proofs.Stages.{at-low, at-six, at-two, at-seven, at-five, at-ten, at-else}
 use Rattle.put.proofs.put_at.Statement.{statement}
 use Rattle.put.proofs.put_at.Tie as tie
-use Rattle.put.proofs.put_at.Reads as reads
-use Rattle.put.proofs.put_at.Lts as lts
-use Rattle.put.proofs.clear.Reads as clear-reads
-use Rattle.put.proofs.end_put.Reads as end-put-reads
-use Rattle.put.proofs.ends.Reads as ends-reads
-use Rattle.put.proofs.forward.Reads as forward-reads
-use Rattle.put.proofs.stroll.Reads as stroll-reads
-use Rattle.put.proofs.wait.Reads as wait-reads
 
--- src/lib.rt:245:14
 wait-requires : tie.Need-wait-requires
 wait-requires c κs = c .before .pre
 
--- src/lib.rt:246:14
 wait-requires-2 : tie.Need-wait-requires-2
 wait-requires-2 c κs = c .before .pre
 
--- src/lib.rt:247:30
 clear-requires : tie.Need-clear-requires
 clear-requires c κs = c .before .pre
 
--- src/lib.rt:247:22
 forward-requires : tie.Need-forward-requires
 forward-requires c κs = tt
 
--- src/lib.rt:247:14
 end-put-requires : tie.Need-end-put-requires
 end-put-requires c κs = tt
 
--- src/lib.rt:248:42
 clear-requires-2 : tie.Need-clear-requires-2
 clear-requires-2 c κs = c .before .pre
 
--- src/lib.rt:248:34
 forward-requires-2 : tie.Need-forward-requires-2
 forward-requires-2 c κs = tt
 
--- src/lib.rt:248:15
 ends-requires : tie.Need-ends-requires
 ends-requires c κs = tt
 
--- src/lib.rt:244:22
 stroll-requires : tie.Need-stroll-requires
 stroll-requires c κs = tt
 
--- src/lib.rt:238:1
 returns : tie.Need-returns
 returns c = at-two (c .before .before .args .r) (c .wait .ensures) (c .before .match .keys2)
 
--- src/lib.rt:238:1
 returns-2 : tie.Need-returns-2
 returns-2 c = at-seven (c .before .before .args .r) (c .wait2 .ensures) (c .before .match .keys3)
 
--- src/lib.rt:238:1
 returns-3 : tie.Need-returns-3
-returns-3 c = at-five (c .before .before .before .before .args .r) (c .before .before .clear .ensures) (c .before .forward .ensures) (c .end-put .ensures) (c .before .before .before .match .keys4)
+returns-3 c =
+    at-five (c .before .before .before .before .args .r) (c .before .before .clear .ensures)
+    (c .before .forward .ensures) (c .end-put .ensures) (c .before .before .before .match .keys4)
 
--- src/lib.rt:238:1
 returns-4 : tie.Need-returns-4
-returns-4 c = at-ten (c .before .before .before .before .args .r) (c .before .before .clear2 .ensures) (c .before .forward2 .ensures) (c .ends .ensures) (c .before .before .before .match .keys5)
+returns-4 c =
+    at-ten (c .before .before .before .before .args .r) (c .before .before .clear2 .ensures)
+    (c .before .forward2 .ensures) (c .ends .ensures) (c .before .before .before .match .keys5)
 
--- src/lib.rt:238:1
 returns-5 : tie.Need-returns-5
-returns-5 c = let r = c .before .before .before .args .r in at-else r (r .process .stage) (omega arith) (omega arith) (omega arith) (omega arith) (omega arith) (omega arith) (omega arith)
+returns-5 c =
+    let r = c .before .before .before .args .r in
+    at-else r (r .process .stage) (omega arith) (omega arith) (omega arith) (omega arith) (omega arith) (omega arith)
+    (omega arith)
 
--- src/lib.rt:238:1
 returns-6 : tie.Need-returns-6
-returns-6 c = let r = c .before .before .before .args .r in at-else r (r .process .stage) (omega arith) (omega arith) (omega arith) (omega arith) (omega arith) (omega arith) (omega arith)
+returns-6 c =
+    let r = c .before .before .before .args .r in
+    at-else r (r .process .stage) (omega arith) (omega arith) (omega arith) (omega arith) (omega arith) (omega arith)
+    (omega arith)
 
--- src/lib.rt:238:1
 returns-7 : tie.Need-returns-7
-returns-7 c = let r = c .before .before .args .r in ⊎-elim (λ k. at-six r (c .stroll .ensures) (k .keys1)) (λ w. at-low r (r .process .stage) (w .1 .taken) (c .stroll .ensures)) (c .before .match .came)
+returns-7 c =
+    let r = c .before .before .args .r in
+    ⊎-elim (λ k. at-six r (c .stroll .ensures) (k .keys1))
+    (λ w. at-low r (r .process .stage) (w .1 .taken) (c .stroll .ensures)) (c .before .match .came)
 
 pub put-at-spec : {M : Type 1} → statement M
 put-at-spec =

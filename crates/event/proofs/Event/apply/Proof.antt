@@ -1,99 +1,90 @@
+-- Each code's function is that code's rule; other codes do nothing. Assumes nothing.
 use Rattle.machine.specs.Events as rule
 use Rattle.event.proofs.Codes.{by-code, no-code}
-use native.Mathlib.Omega.{arith}
-use borrow.Author.Needs.{needs}
 use Rattle.event.proofs.Event.apply.Statement.{statement}
 use Rattle.event.proofs.Event.apply.Tie as tie
-use Rattle.event.proofs.Event.apply.Reads as reads
-use Rattle.event.proofs.Event.apply.Lts as lts
-use Rattle.event.proofs.becomes.Reads as becomes-reads
-use Rattle.event.proofs.hear.Reads as hear-reads
-use Rattle.event.proofs.put.Reads as put-reads
-use Rattle.event.proofs.receive.Reads as receive-reads
-use Rattle.event.proofs.signal.Reads as signal-reads
-use Rattle.event.proofs.start_get.Reads as start-get-reads
-use Rattle.event.proofs.start_put.Reads as start-put-reads
-use Rattle.event.proofs.work.Reads as work-reads
 
--- src/lib.rt:206:18
 start-put-requires : tie.Need-start-put-requires
 start-put-requires c κs = tt
 
--- src/lib.rt:207:18
 start-get-requires : tie.Need-start-get-requires
 start-get-requires c κs = tt
 
--- src/lib.rt:208:18
 work-requires : tie.Need-work-requires
 work-requires c κs = tt
 
--- src/lib.rt:209:18
 signal-requires : tie.Need-signal-requires
 signal-requires c κs = tt
 
--- src/lib.rt:210:18
 receive-requires : tie.Need-receive-requires
 receive-requires c κs = tt
 
--- src/lib.rt:211:18
 hear-requires : tie.Need-hear-requires
 hear-requires c κs = tt
 
--- src/lib.rt:212:18
 hear-requires-2 : tie.Need-hear-requires-2
 hear-requires-2 c κs = tt
 
--- src/lib.rt:213:18
 put-requires : tie.Need-put-requires
-put-requires c κs = search needs
+put-requires c κs = c .before .pre
 
--- src/lib.rt:214:18
 becomes-requires : tie.Need-becomes-requires
 becomes-requires c κs = tt
 
--- src/lib.rt:200:5
 returns : tie.Need-returns
 unfolding rule.react
-returns c = let a = c .before .before .args in by-code (a .self .code) (a .self .message) (a .e) (a .own) 0 (c .before .match .keys1) (c .start-put .ensures)
+returns c =
+    let a = c .before .before .args in
+    by-code (a .self .code) (a .self .message) (a .e) (a .own) 0 (c .before .match .keys1) (c .start-put .ensures)
 
--- src/lib.rt:200:5
 returns-2 : tie.Need-returns-2
 unfolding rule.react
-returns-2 c = let a = c .before .before .args in by-code (a .self .code) (a .self .message) (a .e) (a .own) 1 (c .before .match .keys2) (c .start-get .ensures)
+returns-2 c =
+    let a = c .before .before .args in
+    by-code (a .self .code) (a .self .message) (a .e) (a .own) 1 (c .before .match .keys2) (c .start-get .ensures)
 
--- src/lib.rt:200:5
 returns-3 : tie.Need-returns-3
 unfolding rule.react
-returns-3 c = let a = c .before .before .args in by-code (a .self .code) (a .self .message) (a .e) (a .own) 2 (c .before .match .keys3) (c .work .ensures)
+returns-3 c =
+    let a = c .before .before .args in
+    by-code (a .self .code) (a .self .message) (a .e) (a .own) 2 (c .before .match .keys3) (c .work .ensures)
 
--- src/lib.rt:200:5
 returns-4 : tie.Need-returns-4
 unfolding rule.react
-returns-4 c = let a = c .before .before .args in by-code (a .self .code) (a .self .message) (a .e) (a .own) 3 (c .before .match .keys4) (c .signal .ensures)
+returns-4 c =
+    let a = c .before .before .args in
+    by-code (a .self .code) (a .self .message) (a .e) (a .own) 3 (c .before .match .keys4) (c .signal .ensures)
 
--- src/lib.rt:200:5
 returns-5 : tie.Need-returns-5
 unfolding rule.react
-returns-5 c = let a = c .before .before .args in by-code (a .self .code) (a .self .message) (a .e) (a .own) 4 (c .before .match .keys5) (c .receive .ensures)
+returns-5 c =
+    let a = c .before .before .args in
+    by-code (a .self .code) (a .self .message) (a .e) (a .own) 4 (c .before .match .keys5) (c .receive .ensures)
 
--- src/lib.rt:200:5
 returns-6 : tie.Need-returns-6
 unfolding rule.react
-returns-6 c = let a = c .before .before .args in by-code (a .self .code) (a .self .message) (a .e) (a .own) 5 (c .before .match .keys6) (c .hear .ensures)
+returns-6 c =
+    let a = c .before .before .args in
+    by-code (a .self .code) (a .self .message) (a .e) (a .own) 5 (c .before .match .keys6) (c .hear .ensures)
 
--- src/lib.rt:200:5
 returns-7 : tie.Need-returns-7
 unfolding rule.react
-returns-7 c = let a = c .before .before .args in by-code (a .self .code) (a .self .message) (a .e) (a .own) 6 (c .before .match .keys7) (c .hear2 .ensures)
+returns-7 c =
+    let a = c .before .before .args in
+    by-code (a .self .code) (a .self .message) (a .e) (a .own) 6 (c .before .match .keys7) (c .hear2 .ensures)
 
--- src/lib.rt:200:5
 returns-8 : tie.Need-returns-8
 unfolding rule.react
-returns-8 c = let a = c .before .before .args in by-code (a .self .code) (a .self .message) (a .e) (a .own) 7 (c .before .match .keys8) (c .put .ensures)
+returns-8 c =
+    let a = c .before .before .args in
+    by-code (a .self .code) (a .self .message) (a .e) (a .own) 7 (c .before .match .keys8) (c .put .ensures)
 
--- src/lib.rt:200:5
 returns-9 : tie.Need-returns-9
-returns-9 c = let a = c .before .before .args in let no = c .before .match .rest in no-code (a .self .code) (a .self .message) (a .e) (a .own) (no .0 .0 .0 .0 .0 .0 .0 .1) (no .0 .0 .0 .0 .0 .0 .1) (no .0 .0 .0 .0 .0 .1) (no .0 .0 .0 .0 .1) (no .0 .0 .0 .1) (no .0 .0 .1) (no .0 .1) (no .1) (c .becomes .ensures)
+returns-9 c =
+    let a = c .before .before .args in
+    let no = c .before .match .rest in
+    no-code (a .self .code) (a .self .message) (a .e) (a .own) (no .0 .0 .0 .0 .0 .0 .0 .1) (no .0 .0 .0 .0 .0 .0 .1)
+    (no .0 .0 .0 .0 .0 .1) (no .0 .0 .0 .0 .1) (no .0 .0 .0 .1) (no .0 .0 .1) (no .0 .1) (no .1) (c .becomes .ensures)
 
 pub apply-spec : {M : Type 1} → statement M
 apply-spec =

@@ -1,23 +1,18 @@
-use Rattle.put.proofs.Parts.{count-full, count-empty, more-full, more-empty}
+-- One case for each status; the count is below the end of its byte. Assumes nothing.
 use native.Mathlib.Omega.{arith}
-use Rattle.put.proofs.one_more.Statement.{statement}
-use Rattle.put.proofs.one_more.Tie as tie
-use Rattle.put.proofs.one_more.Reads as reads
-use Rattle.put.proofs.one_more.Lts as lts
+use Rattle.status.proofs.Laws.{count-full, count-empty, more-full, more-empty}
+use Rattle.status.proofs.one_more.Statement.{statement}
+use Rattle.status.proofs.one_more.Tie as tie
 
--- src/lib.rt:39:24
 add-t5 : tie.Need-add-t5
 add-t5 c = omega (arith, count-full (c .before .before .args .c) (c .before .if1 .taken), c .before .before .pre)
 
--- src/lib.rt:41:39
 add-t6 : tie.Need-add-t6
 add-t6 c = omega (arith, count-empty (c .before .before .args .c) (c .before .if1 .left), c .before .before .pre)
 
--- src/lib.rt:34:1
 returns : tie.Need-returns
 returns c = more-full (c .before .before .args .c) (c .before .if1 .taken)
 
--- src/lib.rt:34:1
 returns-2 : tie.Need-returns-2
 returns-2 c = more-empty (c .before .before .args .c) (c .before .if1 .left)
 

@@ -1,0 +1,157 @@
+-- Each way through the step call and through what it is made of is that way through the rule. The answers of lower
+-- functions are variables here, each with the rule's value that it is known to be. Assumes nothing.
+use Prim.Native.Nat.{ℕ, _<_}
+use mathlib.Core.Path.{_≡_, sym, ap, _∙_}
+use mathlib.Core.Bool.{Bool, true, false, not, _||_}
+use mathlib.Core.List.{List, []}
+use native.Mathlib.Omega.{arith}
+use borrow.Author.Tests.{not-true, not-false}
+use Rattle.machine.specs.declared.Pair.{Pair}
+use Rattle.machine.specs.declared.Envelope.{Envelope}
+use Rattle.machine.specs.declared.Process.{Process}
+use Rattle.machine.specs.declared.Outcome.{Outcome}
+use Rattle.machine.specs.declared.Reaction.{Reaction}
+use Rattle.machine.specs.declared.Refusal.{Refusal}
+use Rattle.machine.specs.declared.Verdict.the-variants as verdict
+use Rattle.machine.specs.Ring.{left, right}
+use Rattle.machine.specs.Image.{envelopeIn, processIn, sizeIn, stateIn, imageWith, withProcess, withEnvelope}
+use Rattle.machine.specs.Events as rule
+use Rattle.machine.specs.Stopped.{isIdle}
+use Rattle.machine.specs.Tape.{eventIn}
+use Rattle.machine.specs.Refusals.{codes, imageVerdict, eventVerdict}
+use Rattle.machine.specs.Answers.{answer, outcomeValues, stepVerdict, stepAnswer, stepImage}
+use Rattle.machine.proofs.Bytes.{Bytes}
+use Rattle.machine.proofs.Rewrite.{rewrite-image}
+use Rattle.machine.proofs.Refusals.{image-fine, event-below}
+use Rattle.machine.proofs.Stored.{read-at, read-envelope-at}
+use Rattle.machine.proofs.Idle.{idle-keeps}
+use Rattle.machine.proofs.Sums.{marked-small, marked-counted}
+use Rattle.put.specs.Ready.{Ready}
+use Rattle.image.specs.declared.Ring.{Ring}
+use Rattle.sound.specs.declared.Checked.{Checked}
+use Rattle.sound.specs.declared.Checked.the-variants as checked
+use Rattle.sound.specs.Checked.{checkedAs}
+use Rattle.sound.proofs.Apart as image-test
+use Rattle.event.specs.declared.Event.{Event}
+use Rattle.event.specs.declared.Parsed.{Parsed}
+use Rattle.event.specs.declared.Parsed.the-variants as parsed
+use Rattle.event.specs.Parsed.{ruled, parsedAs}
+use Rattle.event.proofs.Apart as event-test
+use Rattle.step.specs.Placed.{requestedIn, arrivedIn, placedIn}
+use Rattle.step.proofs.Written.{placed-written}
+
+-- ---- a neighbour
+
+module _ (s : List ℕ) (k : ℕ) where
+  pub request-none : (asks : Pair) → not (asks .full || asks .empty) ≡ true → s ≡ requestedIn s k asks
+  unfolding requestedIn
+  request-none asks h = rw (not-true (asks .full || asks .empty) h)
+
+  pub request-some : (asks : Pair) {p q : Process} {t : List ℕ} → not (asks .full || asks .empty) ≡ false
+      → p ≡ processIn s k → q ≡ rule.requested asks p → t ≡ withProcess s k q
+      → t ≡ requestedIn s k asks
+  unfolding requestedIn
+  request-some asks h read new wrote = wrote ∙ rw (not-false (asks .full || asks .empty) h, new, read)
+
+  pub arrive-none : (leaves : Bool) → not leaves ≡ true → s ≡ arrivedIn s k leaves
+  unfolding arrivedIn
+  arrive-none leaves h = rw (not-true leaves h)
+
+  pub arrive-some : (leaves : Bool) {p q : Process} {t : List ℕ} → not leaves ≡ false
+      → p ≡ processIn s k → q ≡ rule.arrived true p → t ≡ withProcess s k q
+      → t ≡ arrivedIn s k leaves
+  unfolding arrivedIn
+  arrive-some leaves h read new wrote = wrote ∙ rw (not-false leaves h, new, read)
+
+-- the four writes, one after the other
+pub place-done : (s : List ℕ) (n i : ℕ) (r : Reaction) {at-left at-right : ℕ} {one two three four : List ℕ}
+    → one ≡ withProcess s i (r .process) → two ≡ withEnvelope one (r .envelope)
+    → at-left ≡ left n i → three ≡ requestedIn two at-left (r .asks)
+    → at-right ≡ right n i → four ≡ arrivedIn three at-right (r .leaves)
+    → four ≡ placedIn s n i r
+unfolding placedIn
+place-done s n i r first second l third k fourth = fourth ∙ rw (third, second, first, l, k)
+
+-- ---- the checked step
+
+module _ (s : List ℕ) (v : rule.Event) {e : Envelope} {p : Process} (fine : imageVerdict s ≡ verdict.Fine)
+    (below : v .process < sizeIn s) (read-e : e ≡ envelopeIn s) (read-p : p ≡ processIn s (v .process)) where
+  -- a sound image's counts can go up and down by one
+  pub ready : Ready e p
+  ready =
+      rw (read-e, read-p, read-envelope-at s, read-at s (v .process) below)
+      (record {
+        room = λ t. omega (arith, marked-small s fine t);
+        counted = λ t. marked-counted s fine (v .process) below t;
+      })
+
+  module _ (small : Bytes s) {r : Reaction} (reacts : r ≡ rule.react (v .code) (v .message) e p) where
+    same : r ≡ rule.reaction (stateIn s) v
+    unfolding rule.reaction
+    same = reacts ∙ rw (read-e, read-p, read-envelope-at s, read-at s (v .process) below)
+
+    said : r .outcome ≡ rule.outcome (stateIn s) v
+    unfolding rule.outcome
+    said = ap (λ (x : Reaction). x .outcome) same
+
+    pub performed-idle : {i : Bool} → i ≡ isIdle (r .outcome) → i ≡ true
+        → (r .outcome ≡ rule.outcome (stateIn s) v) × (s ≡ imageWith s (rule.apply (stateIn s) v))
+    performed-idle test h =
+        let image = image-fine s fine in
+        let idle : isIdle (rule.outcome (stateIn s) v) ≡ true = ap isIdle (sym said) ∙ sym test ∙ h in
+        (said, sym (rewrite-image s (image .room) small (image .fits)) ∙ ap (imageWith s) (sym (idle-keeps (stateIn s) v idle)))
+
+    pub performed : {n : ℕ} {t : List ℕ} → n ≡ sizeIn s → t ≡ placedIn s n (v .process) r
+        → (r .outcome ≡ rule.outcome (stateIn s) v) × (t ≡ imageWith s (rule.apply (stateIn s) v))
+    unfolding rule.apply
+    performed size wrote = (
+      said,
+      wrote ∙ ap (λ n. placedIn s n (v .process) r) size
+          ∙ placed-written s (v .process) r fine small below
+          ∙ rw same,
+    )
+
+-- ---- the step call
+
+module _ (s event : List ℕ) {c : Checked} (test : c ≡ checkedAs (imageVerdict s) (sizeIn s)) where
+  pub image-refused : {r : Refusal} → c ≡ checked.Refused r
+      → (answer (verdict.Refused r) [] ≡ stepAnswer s event) × (s ≡ stepImage s event)
+  unfolding stepAnswer stepImage stepVerdict
+  image-refused e =
+      let no = image-test.refused-is (imageVerdict s) (sizeIn s) test e in
+      (rw no, rw no)
+
+  module _ {ring : Ring} (whole : c ≡ checked.Done ring) {d : Parsed}
+      (read : d ≡ parsedAs (eventVerdict codes (ring .size) event) (eventIn event 0)) where
+    fine : imageVerdict s ≡ verdict.Fine
+    fine = image-test.done-fine (imageVerdict s) (sizeIn s) test whole
+
+    size : ring .size ≡ sizeIn s
+    size = image-test.done-size (imageVerdict s) (sizeIn s) test whole
+
+    pub event-refused : {r : Refusal} → d ≡ parsed.Refused r
+        → (answer (verdict.Refused r) [] ≡ stepAnswer s event) × (s ≡ stepImage s event)
+    unfolding stepAnswer stepImage stepVerdict
+    event-refused e =
+        let no = event-test.refused-is (eventVerdict codes (ring .size) event) (eventIn event 0) read e in
+        let no-event = rw size at no in
+        (rw (fine, no-event), rw (fine, no-event))
+
+    module _ {u : Event} (parts : d ≡ parsed.Done u) where
+      accepted : eventVerdict codes (sizeIn s) event ≡ verdict.Fine
+      accepted =
+          rw size at (event-test.done-fine (eventVerdict codes (ring .size) event) (eventIn event 0) read parts)
+
+      the-event : ruled u ≡ eventIn event 0
+      the-event = event-test.done-event (eventVerdict codes (ring .size) event) (eventIn event 0) read parts
+
+      pub may-perform : (imageVerdict s ≡ verdict.Fine) × (u .process < sizeIn s)
+      may-perform =
+          (fine, rw (ap (λ (x : rule.Event). x .process) the-event) (event-below (sizeIn s) event accepted))
+
+      pub step-done : {o : Outcome} {t : List ℕ} → o ≡ rule.outcome (stateIn s) (ruled u)
+          → t ≡ imageWith s (rule.apply (stateIn s) (ruled u))
+          → (answer verdict.Fine (outcomeValues o) ≡ stepAnswer s event) × (t ≡ stepImage s event)
+      unfolding stepAnswer stepImage stepVerdict
+      step-done says wrote =
+          (rw (says, the-event, fine, accepted), wrote ∙ rw (the-event, fine, accepted))

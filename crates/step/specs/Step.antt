@@ -1,0 +1,11 @@
+-- What the step call's answer tells, in document 01's numbers and values. Assumes nothing.
+use mathlib.Core.List.{[]}
+use Rattle.machine.specs.declared.Verdict.the-variants as verdict
+use Rattle.machine.specs.Answers.{Answer, answer, outcomeValues}
+use Rattle.step.specs.declared.StepAnswer.{StepAnswer}
+use Rattle.step.specs.declared.StepAnswer.the-variants.{Done, Refused}
+
+-- done has the outcome's number and message; a refusal has its number and its place
+abbrev pub told : StepAnswer → Answer
+told (Done o) = answer verdict.Fine (outcomeValues o)
+told (Refused r) = answer (verdict.Refused r) []

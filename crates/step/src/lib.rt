@@ -1,0 +1,132 @@
+// The step call: an image and one event. The checked step beneath it works on an image that is known to be sound, and
+// touches the header and at most two records. Document 01, "The eight events".
+use event::Event;
+use event::Parsed;
+use event::arrived;
+use event::requested;
+use image::Ring;
+use machine::Outcome;
+use machine::Pair;
+use machine::Reaction;
+use machine::Refusal;
+use record::byte::wide;
+use record::header::envelope_at;
+use record::header::put_envelope;
+use record::process::process_at;
+use record::process::put_process;
+use sound::Checked;
+ghost use mathlib.Core.Path.{_≡_};
+ghost use Prim.Native.Nat.{_+_, _*_, _≤_, _<_};
+ghost use lib.ListN.{length};
+ghost use Rattle.machine.specs.Image.{sizeIn, stateIn, imageWith};
+ghost use Rattle.machine.specs.Events as rule;
+ghost use Rattle.machine.specs.Stopped.{isIdle};
+ghost use Rattle.machine.specs.Refusals.{imageVerdict};
+ghost use Rattle.machine.specs.Answers.{stepAnswer, stepImage};
+ghost use Rattle.machine.specs.declared.Verdict.the-variants as verdict;
+ghost use Rattle.event.specs.Parsed.{ruled};
+ghost use Rattle.step.specs.Placed.{requestedIn, arrivedIn, placedIn};
+ghost use Rattle.step.specs.Step.{told};
+
+// What the step call answers.
+pub enum StepAnswer {
+    Done(Outcome),
+    Refused(Refusal),
+}
+
+// Requests go on the link at process k; with none the image isn't touched.
+fn request(image: &mut [u8], k: usize, asks: Pair)
+    requires { ⌜ (k < 64) × (24 + 8 * k ≤ length (now image)) ⌝ }
+    ensures { λ _. ⌜ now (image .exit) ≡ requestedIn (now (image .entry)) k asks ⌝ }
+{
+    if !(asks.full | asks.empty) {
+        return;
+    }
+    let p = process_at(image, k);
+    put_process(image, k, requested(asks, p));
+}
+
+// The envelope arrives at process k; where it doesn't leave the image isn't touched.
+fn arrive(image: &mut [u8], k: usize, leaves: bool)
+    requires { ⌜ (k < 64) × (24 + 8 * k ≤ length (now image)) ⌝ }
+    ensures { λ _. ⌜ now (image .exit) ≡ arrivedIn (now (image .entry)) k leaves ⌝ }
+{
+    if !leaves {
+        return;
+    }
+    let p = process_at(image, k);
+    put_process(image, k, arrived(p));
+}
+
+fn is_idle(outcome: Outcome) -> bool
+    ensures { λ r. ⌜ r ≡ isIdle outcome ⌝ }
+{
+    match outcome {
+        Outcome::Idle => true,
+        Outcome::Moved => false,
+        Outcome::Fill(_) => false,
+        Outcome::Take(_) => false,
+        Outcome::Sent => false,
+        Outcome::Got => false,
+    }
+}
+
+// What an event does at process i, written: its own record and the header, then the left's, then the right's, each as
+// the one before left it.
+fn place(image: &mut [u8], ring: Ring, i: usize, r: Reaction)
+    requires { ⌜ (i < ring .size) × (ring .size ≤ 64) × (16 + 8 * ring .size ≤ length (now image)) ⌝ }
+    ensures { λ _. ⌜ now (image .exit) ≡ placedIn (now (image .entry)) (ring .size) i r ⌝ }
+{
+    let own = r.process;
+    let envelope = r.envelope;
+    let asks = r.asks;
+    put_process(image, i, own);
+    put_envelope(image, envelope);
+    request(image, ring.left(i), asks);
+    arrive(image, ring.right(i), r.leaves);
+}
+
+// Internal: the checked step. The image is known to be sound, and the event to be at a process of it.
+pub fn perform(image: &mut [u8], event: Event) -> Outcome
+    requires { ⌜ (imageVerdict (now image) ≡ verdict.Fine) × (event .process < sizeIn (now image)) ⌝ }
+    ensures answer { λ r. ⌜ r ≡ rule.outcome (stateIn (now (image .entry))) (ruled event) ⌝ }
+    ensures buffer { λ _. ⌜ now (image .exit)
+        ≡ imageWith (now (image .entry)) (rule.apply (stateIn (now (image .entry))) (ruled event)) ⌝ }
+{
+    let i = event.process;
+    let ring = Ring {
+        size: wide(image[0]),
+    };
+    let e = envelope_at(image);
+    let p = process_at(image, i);
+    let r = event.apply(e, p);
+    let outcome = r.outcome;
+    if is_idle(outcome) {
+        return outcome;
+    }
+    place(image, ring, i, r);
+    outcome
+}
+
+// The step call: the event's outcome, and the image as the event leaves it. Refused with 3 or 4 for the image, 5 for
+// the event.
+pub fn step(image: &mut [u8], event: &[u8]) -> StepAnswer
+    ensures answer { λ r. ⌜ told r ≡ stepAnswer (now (image .entry)) (now (event .entry)) ⌝ }
+    ensures buffer { λ _. ⌜ now (image .exit) ≡ stepImage (now (image .entry)) (now (event .entry)) ⌝ }
+{
+    let checked = Checked::of(image);
+    let Checked::Done(ring) = checked else {
+        let Checked::Refused(refusal) = checked else {
+            return StepAnswer::Refused(Refusal::Unsound);
+        };
+        return StepAnswer::Refused(refusal);
+    };
+    let parsed = Event::parse(event, ring.size);
+    let Parsed::Done(parts) = parsed else {
+        let Parsed::Refused(refusal) = parsed else {
+            return StepAnswer::Refused(Refusal::Event(0));
+        };
+        return StepAnswer::Refused(refusal);
+    };
+    StepAnswer::Done(perform(image, parts))
+}
