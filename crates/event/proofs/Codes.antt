@@ -1,5 +1,5 @@
--- The put's news, and the eight events by code: each way through is that way through the rule. The answers of lower functions are variables here, each with
--- the rule's value that it is known to be. Assumes nothing.
+-- The put's news, and the eight events by code: each way through is that way through the rule. The answers of lower
+-- functions are variables here, each with the rule's value that it is known to be. Assumes nothing.
 use Prim.Native.Nat.{ℕ}
 use mathlib.Core.Path.{_≡_, _∙_}
 use mathlib.Core.Bool.{true, false}

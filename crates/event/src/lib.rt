@@ -1,4 +1,4 @@
-// An event as a struct by value: read from eight bytes, tested, and applied to the envelope and to its process's record.
+// An event as a struct by value: read from eight bytes, tested, and applied to the envelope and its process's record.
 // What it does to a neighbour is handed back too: the neighbour's record follows by `requested` or `arrived`.
 // Document 01, "The eight events".
 use get::becomes;

@@ -43,7 +43,8 @@ pub fn start_put(message: u32, e: Envelope, p: Process) -> Reaction
 pub fn start_get(e: Envelope, p: Process) -> Reaction
     ensures { λ r. ⌜ r ≡ rule.startGet e p ⌝ }
 {
-    if p.stage == 0 {
+    let stage = p.stage;
+    if stage == 0 {
         let mut q = p;
         q.stage = 6;
         return becomes(Outcome::Moved, e, q);

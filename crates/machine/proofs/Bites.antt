@@ -195,7 +195,8 @@ bufferCases =
     ∷ case (leaves (runLedger mayFill fills spare))
     (leaves ((0 ∷ 0 ∷ 0 ∷ 0 ∷ 1 ∷ 2 ∷ 0 ∷ 0 ∷ 7 ∷ 0 ∷ 0 ∷ 0 ∷ []) ++ replicate 8 255))
     ∷ case (leaves (writeOutput 2 (event 1 0 7) spare)) (leaves spare)
-    ∷ case (leaves (writeOutput 2 (event 1 0 7) (replicate 512 255 ++ spare))) (leaves (block 0 1 (event 1 0 7) ++ spare))
+    ∷ case (leaves (writeOutput 2 (event 1 0 7) (replicate 512 255 ++ spare)))
+    (leaves (block 0 1 (event 1 0 7) ++ spare))
     ∷ case (leaves (readOutput 2 (block 0 1 (event 2 0 7)) spare)) (leaves spare)
     ∷ case (leaves (readOutput 2 (block 0 1 (event 1 0 7)) spare)) (leaves (event 1 0 7 ++ replicate 12 255))
     ∷ []

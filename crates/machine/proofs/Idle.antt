@@ -15,7 +15,8 @@ use Rattle.machine.specs.Fields.{Status, full, empty, none, for, with, h
 use Rattle.machine.specs.Fields.{withArriving, withNews, withAsked, withLink, withNote}
 use Rattle.machine.specs.Image.{State}
 use Rattle.machine.specs.Stages.{plain, told}
-use Rattle.machine.specs.Events.{Event, becomes, changed, idle, ask, passFor, pass, markFor, mark, unmark, clear, wanted, leave}
+use Rattle.machine.specs.Events.{Event, becomes, changed, idle, ask, passFor, pass, markFor, mark, unmark, clear}
+use Rattle.machine.specs.Events.{wanted, leave}
 use Rattle.machine.specs.Events.{heeding, forward, ends, stroll, wait, endPut, putAt}
 use Rattle.machine.specs.Events.{startPut, startGet, work, signal, receive, hear, put, react}
 use Rattle.machine.specs.Events.{requested, arrived, processAt, change, place, reaction, outcome, apply}
@@ -176,7 +177,8 @@ no-request p = rw (or-false (p .link .full), or-false (p .link .empty))
 pub no-arrival : (p : Process) → arrived false p ≡ p
 no-arrival p = rw (or-false (p .arriving))
 
-pub unchanged : (l : List Process) (k : ℕ) (f : Process → Process) → f (processAt l k) ≡ processAt l k → change l k f ≡ l
+pub unchanged : (l : List Process) (k : ℕ) (f : Process → Process) → f (processAt l k) ≡ processAt l k
+    → change l k f ≡ l
 unfolding change
 unchanged l k f same = ap (set l k) same ∙ set-getD l k blank
 

@@ -3,6 +3,7 @@ pub mod Computed
 pub mod Entries
 pub mod Edges
 pub mod Bites
+pub mod Moves
 pub mod Lists
 pub mod Bytes
 pub mod Bits

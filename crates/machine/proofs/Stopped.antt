@@ -1,9 +1,8 @@
 -- Stopped means what it says: yes exactly when for every process and every code 2 to 7 the outcome is idle. And a
 -- process is quiet exactly when no event finds anything to do at it, which is how code asks. Assumes nothing.
 use Prim.Native.Nat.{ℕ, zero, suc, _≤_, _<_}
-use mathlib.Core.Path.{_≡_, refl, ap, _∙_}
-use mathlib.Core.Bool.{Bool, true, false, not, cond, _&&_, _||_, and-true, and-assoc, false≢true}
-use mathlib.Core.List.{List, [], _∷_}
+use mathlib.Core.Path.{_≡_, refl, _∙_}
+use mathlib.Core.Bool.{Bool, true, false, not, cond, _&&_, and-true, and-assoc, false≢true}
 use native.Mathlib.Omega.{arith}
 use lib.ListN.{length}
 use lib.Dec.{eqb, lit≤}
@@ -16,7 +15,8 @@ use Rattle.machine.specs.Lists.{all}
 use Rattle.machine.specs.Fields.{Status, full, empty, for, blank}
 use Rattle.machine.specs.Image.{State}
 use Rattle.machine.specs.Stages.{told}
-use Rattle.machine.specs.Events.{Event, idle, work, signal, receive, hear, put, react, processAt, reaction, outcome}
+use Rattle.machine.specs.Events.{idle, work, signal, receive, hear, put, react, processAt, reaction}
+use Rattle.machine.specs.Events.{outcome}
 use Rattle.machine.specs.Stopped.{isIdle, quiet, stopped}
 use Rattle.machine.proofs.Lists.{and-first, and-second, all-at}
 use Rattle.machine.proofs.Idle.{idles, put-at-moves}

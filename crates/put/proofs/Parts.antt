@@ -1,5 +1,5 @@
--- Each way through a part of a put is that way through its rule. The answers of lower functions are variables here, each
--- with the rule's value that it is known to be. Assumes nothing.
+-- Each way through a part of a put is that way through its rule. The answers of lower functions are variables here,
+-- each with the rule's value that it is known to be. Assumes nothing.
 use Prim.Native.Nat.{ℕ, zero, suc, pred}
 use mathlib.Core.Path.{_≡_, refl, sym, _∙_}
 use mathlib.Core.Bool.{Bool, true, false, not, _||_, Bool·beq}

@@ -99,7 +99,8 @@ module _ (s : List ℕ) (v : rule.Event) {e : Envelope} {p : Process} (fine : im
     performed-idle test h =
         let image = image-fine s fine in
         let idle : isIdle (rule.outcome (stateIn s) v) ≡ true = ap isIdle (sym said) ∙ sym test ∙ h in
-        (said, sym (rewrite-image s (image .room) small (image .fits)) ∙ ap (imageWith s) (sym (idle-keeps (stateIn s) v idle)))
+        let same-image = sym (rewrite-image s (image .room) small (image .fits)) in
+        (said, same-image ∙ ap (imageWith s) (sym (idle-keeps (stateIn s) v idle)))
 
     pub performed : {n : ℕ} {t : List ℕ} → n ≡ sizeIn s → t ≡ placedIn s n (v .process) r
         → (r .outcome ≡ rule.outcome (stateIn s) v) × (t ≡ imageWith s (rule.apply (stateIn s) v))

@@ -48,7 +48,8 @@ module _ (s : List ℕ) (st : State) (k : ℕ) (below : k < length (st .processe
       ap (λ p. withProcess (imageWith s st) k (f p)) (read-process s st k below small)
       ∙ write-process s st k (f (processAt (st .processes) k)) below
 
-  requested-written : (asks : Pair) → requestedIn (imageWith s st) k asks ≡ imageWith s (changedAt st k (requested asks))
+  requested-written : (asks : Pair)
+      → requestedIn (imageWith s st) k asks ≡ imageWith s (changedAt st k (requested asks))
   unfolding requestedIn
   requested-written asks = by-asks (asks .full || asks .empty) refl
     where
@@ -62,7 +63,8 @@ module _ (s : List ℕ) (st : State) (k : ℕ) (below : k < length (st .processe
           rw (off .0, off .1, or-false (p .link .full), or-false (p .link .empty)) in
           rw (e, unchanged (st .processes) k (requested asks) same)
 
-  arrived-written : (leaves : Bool) → arrivedIn (imageWith s st) k leaves ≡ imageWith s (changedAt st k (arrived leaves))
+  arrived-written : (leaves : Bool)
+      → arrivedIn (imageWith s st) k leaves ≡ imageWith s (changedAt st k (arrived leaves))
   unfolding arrivedIn
   arrived-written true = changed-written (arrived true)
   arrived-written false =

@@ -80,10 +80,12 @@ fn place(image: &mut [u8], ring: Ring, i: usize, r: Reaction)
     let own = r.process;
     let envelope = r.envelope;
     let asks = r.asks;
+    let to_left = ring.left(i);
+    let to_right = ring.right(i);
     put_process(image, i, own);
     put_envelope(image, envelope);
-    request(image, ring.left(i), asks);
-    arrive(image, ring.right(i), r.leaves);
+    request(image, to_left, asks);
+    arrive(image, to_right, r.leaves);
 }
 
 // Internal: the checked step. The image is known to be sound, and the event to be at a process of it.
@@ -128,5 +130,6 @@ pub fn step(image: &mut [u8], event: &[u8]) -> StepAnswer
         };
         return StepAnswer::Refused(refusal);
     };
-    StepAnswer::Done(perform(image, parts))
+    let outcome = perform(image, parts);
+    StepAnswer::Done(outcome)
 }

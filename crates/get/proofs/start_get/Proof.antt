@@ -8,7 +8,7 @@ becomes-requires c κs = tt
 
 returns : tie.Need-returns
 returns c =
-    let a = c .before .before .before .args in
+    let a = c .before .before .args in
     get-starts (a .e) (a .p) (c .before .if1 .taken) (c .becomes .ensures)
 
 becomes-requires-2 : tie.Need-becomes-requires-2
@@ -16,7 +16,7 @@ becomes-requires-2 c κs = tt
 
 returns-2 : tie.Need-returns-2
 returns-2 c =
-    let a = c .before .before .before .args in
+    let a = c .before .before .args in
     get-busy (a .e) (a .p) (c .before .if1 .left) (c .becomes2 .ensures)
 
 pub start-get-spec : {M : Type 1} → statement M
