@@ -2,10 +2,9 @@
 -- document 01 gives it, and one theorem that the checker computes. Assumes nothing.
 use Prim.Native.Nat.{ℕ, _+_, _*_}
 use mathlib.Core.Path.{_≡_, refl}
-use mathlib.Core.Bool.{Bool, true, false, _&&_}
+use mathlib.Core.Bool.{true}
 use mathlib.Core.List.{List, [], _∷_, _++_}
 use lib.ListN.{length, set, take, replicate}
-use lib.Dec.{eqb}
 use Rattle.machine.specs.declared.Verdict.the-variants.{Fine, Refused}
 use Rattle.machine.specs.declared.Refusal.the-variants as refusal
 use Rattle.machine.specs.Tape.{blockBytes, padded}
@@ -16,8 +15,9 @@ use Rattle.machine.specs.Answers.{Answer, freshAnswer, freshImage, stepA
 use Rattle.machine.specs.Answers.{runAnswer, runImage, runLedger, stoppedAnswer, writeAnswer, writeOutput}
 use Rattle.machine.specs.Answers.{readAnswer, readOutput, readVerdict, writeVerdict, runVerdict}
 use Rattle.machine.proofs.Computed.{rules}
-use Rattle.machine.proofs.Edges.{Case, case, edges, edgeCases, altered, having, without}
-use Rattle.machine.proofs.Entries.{done, refused, event, copies, mayFill}
+use Rattle.machine.proofs.Cases.{Case, case, met, done, refused, event, copies}
+use Rattle.machine.proofs.Edges.{edges, edgeCases, altered, having, without}
+use Rattle.machine.proofs.Entries.{mayFill}
 
 -- ---- the table, call by call
 
@@ -207,18 +207,6 @@ abbrev pub cases : List Case
 cases =
     edgeCases edges
     ++ (freshCases ++ (imageCases ++ (stepCases ++ (tapeCases ++ (runCases ++ (writeCases ++ bufferCases))))))
-
--- whether two answers are the same, number and values
-abbrev pub sameValues : List ℕ → List ℕ → Bool
-sameValues [] [] = true
-sameValues [] (y ∷ ys) = false
-sameValues (x ∷ xs) [] = false
-sameValues (x ∷ xs) (y ∷ ys) = eqb x y && sameValues xs ys
-
-abbrev pub met : List Case → Bool
-met [] = true
-met (c ∷ cs) =
-    eqb (c .answers .number) (c .wanted .number) && sameValues (c .answers .values) (c .wanted .values) && met cs
 
 pub every-rule-bites : met cases ≡ true
 unfolding rules mayFill

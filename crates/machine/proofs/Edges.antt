@@ -3,22 +3,13 @@
 use Prim.Native.Nat.{ℕ, zero, suc, _+_, _-_}
 use mathlib.Core.Bool.{Bool, true, false}
 use mathlib.Core.List.{List, [], _∷_, _++_}
-use lib.ListN.{set, replicate}
-use Rattle.machine.specs.Bytes.{bytes}
+use lib.ListN.{set}
 use Rattle.machine.specs.Image.{sizeIn, stateIn}
 use Rattle.machine.specs.Sound.{headerRules, recordRulesIn, restRules}
 use Rattle.machine.specs.Refusals.{imageVerdict}
-use Rattle.machine.specs.Answers.{Answer, answer}
+use Rattle.machine.specs.Answers.{answer}
 use Rattle.machine.proofs.Computed.{rules}
-use Rattle.machine.proofs.Entries.{done, refused}
-
--- what a call answers, and what it is to answer
-pub record Case : Type 0 where
-  pub answers : Answer
-  pub wanted : Answer
-
-abbrev pub case : Answer → Answer → Case
-case a w = record { answers = a; wanted = w }
+use Rattle.machine.proofs.Cases.{Case, case, done, refused, image, record8}
 
 -- ---- images
 
@@ -50,14 +41,6 @@ edgeCases (x ∷ xs) =
     ∷ case (done (brokenIn (x .breaks) ∷ [])) (done (1 ∷ []))
     ∷ case (answer (imageVerdict (x .meets)) (brokenIn (x .meets) ∷ [])) (done (0 ∷ []))
     ∷ edgeCases xs
-
--- an image of two processes: header bytes 1 to 4 and the message, then each record
-abbrev pub image : ℕ → ℕ → ℕ → ℕ → ℕ → List ℕ → List ℕ → List ℕ
-image status markers countFull countEmpty message p q =
-    (2 ∷ status ∷ markers ∷ countFull ∷ countEmpty ∷ 0 ∷ 0 ∷ 0 ∷ bytes 4 message) ++ (replicate 4 0 ++ (p ++ q))
-
-abbrev pub record8 : ℕ → ℕ → ℕ → ℕ → List ℕ
-record8 stage flags requests note = stage ∷ flags ∷ requests ∷ 0 ∷ bytes 4 note
 
 -- process 0 at a stage, and process 1 at rest with the envelope; process 0 at a stage with the envelope
 abbrev pub without : ℕ → ℕ → ℕ → List ℕ

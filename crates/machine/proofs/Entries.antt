@@ -7,25 +7,10 @@ use lib.ListN.{drop, replicate}
 use Rattle.machine.specs.Bytes.{bytes}
 use Rattle.machine.specs.Lists.{join}
 use Rattle.machine.specs.Tape.{tapeOf, check, covered, blockCheck}
-use Rattle.machine.specs.Answers.{Answer, freshAnswer, freshImage, stepAnswer, stepImage, runAnswer, runImage}
+use Rattle.machine.specs.Answers.{freshAnswer, freshImage, stepAnswer, stepImage, runAnswer, runImage}
 use Rattle.machine.specs.Answers.{runLedger, stoppedAnswer, writeAnswer, readAnswer}
 use Rattle.machine.proofs.Computed.{rules}
-
--- a result with these values
-abbrev pub done : List ℕ → Answer
-done values = record { number = 0; values = values }
-
--- a refusal by its number and its place
-abbrev pub refused : ℕ → ℕ → Answer
-refused number place = record { number = number; values = place ∷ [] }
-
--- an event p.c with message m, as bytes
-abbrev pub event : ℕ → ℕ → ℕ → List ℕ
-event p c m = p ∷ c ∷ 0 ∷ 0 ∷ bytes 4 m
-
--- n copies of an event
-abbrev pub copies : ℕ → List ℕ → List ℕ
-copies n e = join (replicate n e)
+use Rattle.machine.proofs.Cases.{done, refused, event, copies}
 
 -- entry 1's events, in two halves
 unfoldable pub firstTen : List ℕ

@@ -1,9 +1,10 @@
 -- What holds of the rules alone.
 pub mod Computed
+pub mod Cases
 pub mod Entries
+pub mod Moves
 pub mod Edges
 pub mod Bites
-pub mod Moves
 pub mod Lists
 pub mod Bytes
 pub mod Bits
@@ -29,3 +30,4 @@ pub mod Octets
 pub mod Facts
 pub mod Kept
 pub mod Stopped
+pub mod Steps

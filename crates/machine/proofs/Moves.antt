@@ -1,4 +1,5 @@
--- Each sentence of "The eight events", shown on a small image: the event, its outcome and the whole image after it.
+-- Each sentence of "The eight events", shown on a small image: the event, its outcome and the whole image after it; and
+-- whether the ring is stopped.
 -- Records are written as in document 01: stage, flags (1 have, 2 arriving, 4 news), requests (1, 2 asked by the right;
 -- 4, 8 asked itself; 16, 32 marked; 64, 128 on the link, for full and for empty), note. Assumes nothing.
 use Prim.Native.Nat.{ℕ}
@@ -6,11 +7,9 @@ use mathlib.Core.Path.{_≡_, refl}
 use mathlib.Core.Bool.{true}
 use mathlib.Core.List.{List, [], _∷_, _++_}
 use lib.ListN.{replicate}
-use Rattle.machine.specs.Answers.{stepAnswer, stepImage}
+use Rattle.machine.specs.Answers.{stepAnswer, stepImage, stoppedAnswer}
 use Rattle.machine.proofs.Computed.{rules}
-use Rattle.machine.proofs.Entries.{done, event}
-use Rattle.machine.proofs.Edges.{Case, case, image, record8}
-use Rattle.machine.proofs.Bites.{met}
+use Rattle.machine.proofs.Cases.{Case, case, met, done, event, image, record8}
 
 -- ---- how a case is written
 
@@ -215,12 +214,32 @@ sides =
     ∷ puts (three 2 (record8 0 5 0 0) nobody nobody) moved (three 2 nobody (record8 0 2 0 0) nobody)
     ∷ []
 
+-- ---- stopped
+
+-- no, where just one event finds something to do: 2, 3, 4, 5, 6 or 7; yes, where all six are idle, waiting or not
+abbrev stops : List Case
+stops =
+    case (stoppedAnswer (hollow (record8 3 1 0 7) nobody)) (done (0 ∷ []))
+    ∷ case (stoppedAnswer (laden nobody (record8 8 1 0 0))) (done (0 ∷ []))
+    ∷ case (stoppedAnswer (hollow (record8 1 1 0 7) nobody)) (done (0 ∷ []))
+    ∷ case (stoppedAnswer (laden (record8 4 1 0 0) nobody)) (done (0 ∷ []))
+    ∷ case (stoppedAnswer (hollow holder (record8 6 0 0 0))) (done (0 ∷ []))
+    ∷ case (stoppedAnswer (hollow (record8 9 1 0 0) nobody)) (done (0 ∷ []))
+    ∷ case (stoppedAnswer (hollow nobody (record8 0 2 0 0))) (done (0 ∷ []))
+    ∷ case (stoppedAnswer (hollow holder (record8 0 0 64 0))) (done (0 ∷ []))
+    ∷ case (stoppedAnswer (hollow (record8 0 1 128 0) nobody)) (done (0 ∷ []))
+    ∷ case (stoppedAnswer (hollow holder (record8 0 4 0 0))) (done (0 ∷ []))
+    ∷ case (stoppedAnswer (image 0 3 1 0 0 (record8 0 1 15 0) (record8 7 0 20 0))) (done (1 ∷ []))
+    ∷ case (stoppedAnswer (image 1 3 0 1 9 (record8 5 1 3 0) (record8 2 0 40 7))) (done (1 ∷ []))
+    ∷ case (stoppedAnswer (hollow (record8 10 1 3 0) nobody)) (done (1 ∷ []))
+    ∷ []
+
 -- ---- all of them
 
 abbrev pub shown : List Move
 shown =
     wishes ++ (works ++ (signals ++ (takings ++ (calm ++ (passing ++ (forwards ++ (waiting ++ (endings ++ sides))))))))
 
-pub every-event-shown : met (moves shown) ≡ true
+pub every-event-shown : met (moves shown ++ stops) ≡ true
 unfolding rules
 every-event-shown = refl

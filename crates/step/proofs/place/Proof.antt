@@ -20,10 +20,22 @@ put-envelope-requires c κs = omega arith
 
 request-requires : tie.Need-request-requires
 request-requires c κs =
-    let left = c .before .before .before .before .before .before .before .before .before .before in
-    let start = left .before .before .before .before .before in
-    let inside = left-below (start .args .ring .size) (start .args .i) (omega arith) in
-    omega (arith, inside, left .left .ensures, start .pre)
+    let header = c .before .before .before in
+    let own = header .before .before .before .before in
+    let right = own .before .before in
+    let start = right .before .before .before .before .before .before in
+    let at-left = left-below (start .args .ring .size) (start .args .i) (omega arith) in
+    let at-right = right-below (start .args .ring .size) (start .args .i) (omega arith) in
+    omega (
+      arith,
+      at-left,
+      at-right,
+      right .before .left .ensures,
+      right .right .ensures,
+      start .pre,
+      header .put-envelope .kept,
+      own .put-process .kept,
+    )
 
 arrive-requires : tie.Need-arrive-requires
 arrive-requires c κs =
@@ -32,10 +44,13 @@ arrive-requires c κs =
     let own = header .before .before .before .before in
     let right = own .before .before in
     let start = right .before .before .before .before .before .before in
-    let inside = right-below (start .args .ring .size) (start .args .i) (omega arith) in
+    let at-left = left-below (start .args .ring .size) (start .args .i) (omega arith) in
+    let at-right = right-below (start .args .ring .size) (start .args .i) (omega arith) in
     omega (
       arith,
-      inside,
+      at-left,
+      at-right,
+      right .before .left .ensures,
       right .right .ensures,
       start .pre,
       request .request .kept,
