@@ -2,7 +2,7 @@
 pub mod Computed
 pub mod Cases
 pub mod Entries
-pub mod Moves
+pub mod Events
 pub mod Edges
 pub mod Bites
 pub mod Lists
@@ -18,7 +18,9 @@ pub mod Walk
 pub mod Stored
 pub mod Refusals
 pub mod Fresh
+pub mod Ways
 pub mod Idle
+pub mod Neighbours
 pub mod Sums
 pub mod Owed
 pub mod Settled

@@ -14,13 +14,8 @@ use Rattle.machine.specs.Bytes.{bit}
 use Rattle.machine.specs.Fields.{Status, full, empty, for, with, count, withCount}
 use Rattle.machine.specs.Stages.{markable}
 use Rattle.machine.specs.Events.{ask, passFor, pass, markFor, unmark, clear, wanted, leave, heeding, forward}
+use Rattle.machine.proofs.Ways.{by-test}
 use Rattle.machine.proofs.Sums.{marksFor}
-
--- what holds of both ways holds of a choice
-pub by-test : {A : Type 0} (P : A → Type 0) (b : Bool) (x y : A) → (b ≡ true → P x) → (b ≡ false → P y)
-    → P (cond b x y)
-by-test P true x y if-so if-not = if-so refl
-by-test P false x y if-so if-not = if-not refl
 
 -- ---- a mark set or taken away, with its count
 

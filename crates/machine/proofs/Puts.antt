@@ -16,7 +16,8 @@ use Rattle.machine.specs.Stages.{plain, markable}
 use Rattle.machine.specs.Events.{becomes, ask, pass, mark, clear, forward, ends, stroll, wait, endPut, putAt, put}
 use Rattle.machine.proofs.Lists.{and-first}
 use Rattle.machine.proofs.Sums.{marksFor}
-use Rattle.machine.proofs.Owed.{by-test, Owed, ask-owed, pass-owed, mark-owed, forward-owed, clear-owed}
+use Rattle.machine.proofs.Ways.{by-test}
+use Rattle.machine.proofs.Owed.{Owed, ask-owed, pass-owed, mark-owed, forward-owed, clear-owed}
 use Rattle.machine.proofs.Owed.{forward-mark, clear-mark}
 use Rattle.machine.proofs.Settled.{FitsOf, Fits, Settled, needs, plain-free, marks-follow, at-stage, still}
 use Rattle.machine.proofs.Settled.{settle, settle-end}

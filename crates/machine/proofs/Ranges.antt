@@ -9,11 +9,11 @@ use Rattle.machine.specs.declared.Outcome.{Outcome}
 use Rattle.machine.specs.declared.Outcome.the-variants.{Sent, Got}
 use Rattle.machine.specs.declared.Reaction.{Reaction}
 use Rattle.machine.specs.Fields.{Status, full, empty, for}
-use Rattle.machine.specs.Stages.{plain, told}
+use Rattle.machine.specs.Stages.{told}
 use Rattle.machine.specs.Events.{ask, passFor, pass, markFor, mark, unmark, clear, wanted, leave, heeding}
 use Rattle.machine.specs.Events.{forward, ends, stroll, wait, endPut, putAt, startPut, startGet, work, signal}
 use Rattle.machine.specs.Events.{receive, hear, put, react}
-use Rattle.machine.proofs.Owed.{by-test}
+use Rattle.machine.proofs.Ways.{by-test, choice, every-stage, every-code}
 
 -- the message and the note of a reaction, in range
 abbrev pub Small : Reaction → Type 0
@@ -23,11 +23,11 @@ Small r = (r .envelope .message < 2 ^ 32) × (r .process .note < 2 ^ 32)
 
 ask-small : (s : Status) (r : Reaction) → Small r → Small (ask s r)
 unfolding ask
-ask-small s r v = by-test Small (for (r .process .itself) s) _ _ (λ _. v) (λ _. v)
+ask-small s r v = choice Small (for (r .process .itself) s) _ _ v v
 
 pass-for-small : (s : Status) (r : Reaction) → Small r → Small (passFor s r)
 unfolding passFor
-pass-for-small s r v = by-test Small (for (r .process .asked) s) _ _ (λ _. ask-small s r v) (λ _. v)
+pass-for-small s r v = choice Small (for (r .process .asked) s) _ _ (ask-small s r v) v
 
 pass-small : (r : Reaction) → Small r → Small (pass r)
 unfolding pass
@@ -39,11 +39,11 @@ mark-small r v = by-test Small (for (r .process .mark) (not (r .envelope .full))
 
 clear-small : (s : Status) (r : Reaction) → Small r → Small (clear s r)
 unfolding clear unmark
-clear-small s r v = by-test Small (for (r .process .mark) s) _ _ (λ _. v) (λ _. v)
+clear-small s r v = choice Small (for (r .process .mark) s) _ _ v v
 
 forward-small : (r : Reaction) → Small r → Small (forward r)
 unfolding forward heeding leave
-forward-small r v = by-test Small (wanted (heeding r .envelope)) _ _ (λ _. v) (λ _. v)
+forward-small r v = choice Small (wanted (heeding r .envelope)) _ _ v v
 
 ends-small : (o : Outcome) (r : Reaction) → Small r → Small (ends o r)
 unfolding ends
@@ -51,7 +51,7 @@ ends-small o r v = v
 
 stroll-small : (r : Reaction) → Small r → Small (stroll r)
 unfolding stroll
-stroll-small r v = by-test Small (r .process .have) _ _ (λ _. forward-small r v) (λ _. pass-small r v)
+stroll-small r v = choice Small (r .process .have) _ _ (forward-small r v) (pass-small r v)
 
 wait-small : (s : Status) (next : ℕ) (r : Reaction) → Small r → Small (wait s next r)
 unfolding wait
@@ -63,38 +63,26 @@ wait-small s next r v =
 
 end-put-small : (r : Reaction) → Small r → Small (endPut r)
 unfolding endPut
-end-put-small r v = by-test Small (r .leaves) _ _ (λ _. ends-small Sent r v) (λ _. v)
+end-put-small r v = choice Small (r .leaves) _ _ (ends-small Sent r v) v
 
 put-at-small : (stage : ℕ) (r : Reaction) → Small r → Small (putAt stage r)
-unfolding putAt
 put-at-small stage r v =
-    by-test Small (plain stage) _ _ (λ _. stroll-small r v)
-    (λ _. by-test Small (eqb stage 2) _ _ (λ _. wait-small empty 3 r v)
-    (λ _. by-test Small (eqb stage 7) _ _ (λ _. wait-small full 8 r v)
-    (λ _. by-test Small (eqb stage 5) _ _
-    (λ _. end-put-small (forward (clear empty r)) (forward-small (clear empty r) (clear-small empty r v)))
-    (λ _. by-test Small (eqb stage 10) _ _
-    (λ _. ends-small Got (forward (clear full r)) (forward-small (clear full r) (clear-small full r v))) (λ _. v)))))
+    every-stage Small stage r (stroll-small r v) (wait-small empty 3 r v) (wait-small full 8 r v)
+    (end-put-small (forward (clear empty r)) (forward-small (clear empty r) (clear-small empty r v)))
+    (ends-small Got (forward (clear full r)) (forward-small (clear full r) (clear-small full r v))) v
 
 -- ---- the events
 
 pub react-small : (code message : ℕ) (e : Envelope) (p : Process) → message < 2 ^ 32 → e .message < 2 ^ 32
     → p .note < 2 ^ 32
     → Small (react code message e p)
-unfolding react startPut startGet work signal receive hear put
+unfolding startPut startGet work signal receive hear put
 react-small code message e p new old note =
-    by-test Small (eqb code 0) _ _ (λ _. by-test Small (eqb (p .stage) 0) _ _ (λ _. (old, new)) (λ _. v))
-    (λ _. by-test Small (eqb code 1) _ _ (λ _. by-test Small (eqb (p .stage) 0) _ _ (λ _. v) (λ _. v))
-    (λ _. by-test Small (eqb code 2) _ _
-    (λ _. by-test Small (eqb (p .stage) 3) _ _ (λ _. (note, lit< tt))
-    (λ _. by-test Small (eqb (p .stage) 8) _ _ (λ _. (lit< tt, note)) (λ _. v)))
-    (λ _. by-test Small (eqb code 3) _ _ (λ _. by-test Small (told (p .stage)) _ _ (λ _. v) (λ _. v))
-    (λ _. by-test Small (eqb code 4) _ _ (λ _. by-test Small (p .arriving) _ _ (λ _. v) (λ _. v))
-    (λ _. by-test Small (eqb code 5) _ _ (λ _. by-test Small (p .link .full) _ _ (λ _. v) (λ _. v))
-    (λ _. by-test Small (eqb code 6) _ _ (λ _. by-test Small (p .link .empty) _ _ (λ _. v) (λ _. v))
-    (λ _. by-test Small (eqb code 7) _ _
-    (λ _. by-test Small (p .news) _ _ (λ _. put-at-small (p .stage) _ v) (λ _. v))
-    (λ _. v))))))))
+    every-code Small code message e p (choice Small (eqb (p .stage) 0) _ _ (old, new) v)
+    (choice Small (eqb (p .stage) 0) _ _ v v)
+    (choice Small (eqb (p .stage) 3) _ _ (note, lit< tt) (choice Small (eqb (p .stage) 8) _ _ (lit< tt, note) v))
+    (choice Small (told (p .stage)) _ _ v v) (choice Small (p .arriving) _ _ v v)
+    (λ s. choice Small (for (p .link) s) _ _ v v) (choice Small (p .news) _ _ (put-at-small (p .stage) _ v) v) v
   where
     v : (e .message < 2 ^ 32) × (p .note < 2 ^ 32)
     v = (old, note)

@@ -10,13 +10,13 @@ use borrow.Author.Tests.{eqb-true}
 use Rattle.machine.specs.declared.Envelope.{Envelope}
 use Rattle.machine.specs.declared.Process.{Process}
 use Rattle.machine.specs.Bytes.{bit}
-use Rattle.machine.specs.Fields.{Status, full, empty, for, count, withStage}
+use Rattle.machine.specs.Fields.{Status, full, for, count, withStage}
 use Rattle.machine.specs.Stages.{lastStage, told, withEmpty, withFull}
 use Rattle.machine.specs.Sound.{noteFits, stageFits}
 use Rattle.machine.specs.Events.{idle, startPut, startGet, work, signal, receive, hear, react}
 use Rattle.machine.proofs.Lists.{and-first}
 use Rattle.machine.proofs.Sums.{flagsSet, marksFor}
-use Rattle.machine.proofs.Owed.{by-test}
+use Rattle.machine.proofs.Ways.{by-test, every-code}
 use Rattle.machine.proofs.Settled.{FitsOf, Fits, Settled, either-way, has-come, follows, marks-follow, at-stage}
 use Rattle.machine.proofs.Settled.{still}
 use Rattle.machine.proofs.Puts.{put-settled}
@@ -166,13 +166,6 @@ module _ (e : Envelope) (p : Process) (fits : Fits e p) where
   -- a code above 7 is not possible
   pub react-settled : (code message : ℕ) → flagsSet p ≤ 1 → ((s : Status) → marksFor s p ≤ count (e .marked) s)
       → Settled e p (react code message e p)
-  unfolding react
   react-settled code message alone own =
-      by-test (Settled e p) (eqb code 0) _ _ (λ _. start-put message)
-      (λ _. by-test (Settled e p) (eqb code 1) _ _ (λ _. start-get)
-      (λ _. by-test (Settled e p) (eqb code 2) _ _ (λ _. work-settled)
-      (λ _. by-test (Settled e p) (eqb code 3) _ _ (λ _. signal-settled)
-      (λ _. by-test (Settled e p) (eqb code 4) _ _ (λ _. receive-settled alone)
-      (λ _. by-test (Settled e p) (eqb code 5) _ _ (λ _. hear-settled full)
-      (λ _. by-test (Settled e p) (eqb code 6) _ _ (λ _. hear-settled empty)
-      (λ _. by-test (Settled e p) (eqb code 7) _ _ (λ _. put-settled e p fits own) (λ _. nothing))))))))
+      every-code (Settled e p) code message e p (start-put message) start-get work-settled signal-settled
+      (receive-settled alone) hear-settled (put-settled e p fits own) nothing

@@ -1,0 +1,127 @@
+-- An event changes at most one neighbour: only a process without the envelope asks, and only one with it lets it leave.
+-- Each part of a put hands on what another part did for the neighbours. Codes 0 to 6 change none. Assumes nothing.
+use Prim.Native.Nat.{ℕ}
+use mathlib.Core.Path.{_≡_, refl, _∙_}
+use mathlib.Core.Bool.{Bool, false, not, cond, Bool·beq}
+use mathlib.Core.Logic.{_⊎_, inl, inr}
+use lib.Dec.{eqb}
+use Rattle.machine.specs.declared.Pair.{Pair}
+use Rattle.machine.specs.declared.Envelope.{Envelope}
+use Rattle.machine.specs.declared.Process.{Process}
+use Rattle.machine.specs.declared.Reaction.{Reaction}
+use Rattle.machine.specs.declared.Outcome.the-variants.{Moved}
+use Rattle.machine.specs.Fields.{Status, full, empty, none, for, withNews, withStage}
+use Rattle.machine.specs.Stages.{told}
+use Rattle.machine.specs.Events.{becomes, changed, idle, ask, passFor, pass, markFor, mark, unmark, clear, wanted}
+use Rattle.machine.specs.Events.{leave, heeding, forward, ends, stroll, wait, endPut, putAt}
+use Rattle.machine.specs.Events.{startPut, startGet, work, signal, receive, hear, put, react}
+use Rattle.machine.proofs.Ways.{choice, every-stage, every-code}
+
+-- a choice between two that agree in something
+alike : {A : Type 0} (f : Reaction → A) (b : Bool) (x y : Reaction) {a : A} → f x ≡ a → f y ≡ a → f (cond b x y) ≡ a
+alike f b x y {a} hx hy = choice (λ r. f r ≡ a) b x y hx hy
+
+-- what goes to the left, and what to the right
+abbrev asksOf : Reaction → Pair
+asksOf r = r .asks
+
+abbrev leavesOf : Reaction → Bool
+leavesOf r = r .leaves
+
+-- ---- parts that ask let nothing leave
+
+ask-leaves : (s : Status) (r : Reaction) → ask s r .leaves ≡ r .leaves
+unfolding ask
+ask-leaves s r = alike leavesOf (for (r .process .itself) s) r _ refl refl
+
+pass-for-leaves : (s : Status) (r : Reaction) → passFor s r .leaves ≡ r .leaves
+unfolding passFor
+pass-for-leaves s r = alike leavesOf (for (r .process .asked) s) (ask s r) r (ask-leaves s r) refl
+
+pass-leaves : (r : Reaction) → pass r .leaves ≡ r .leaves
+unfolding pass
+pass-leaves r = pass-for-leaves empty (passFor full r) ∙ pass-for-leaves full r
+
+-- ---- parts that let it leave ask nothing
+
+mark-asks : (r : Reaction) → mark r .asks ≡ r .asks
+unfolding mark markFor
+mark-asks r = alike asksOf (for (r .process .mark) (not (r .envelope .full))) r _ refl refl
+
+clear-asks : (s : Status) (r : Reaction) → clear s r .asks ≡ r .asks
+unfolding clear unmark
+clear-asks s r = alike asksOf (for (r .process .mark) s) _ _ refl refl
+
+forward-asks : (r : Reaction) → forward r .asks ≡ r .asks
+unfolding forward leave heeding
+forward-asks r = alike asksOf (wanted (heeding r .envelope)) (leave (heeding r)) (heeding r) refl refl
+
+end-put-asks : (r : Reaction) → endPut r .asks ≡ r .asks
+unfolding endPut ends
+end-put-asks r = alike asksOf (r .leaves) _ r refl refl
+
+-- ---- so a put does one of the two
+
+-- nothing is asked, or nothing leaves
+abbrev pub OneSide : Reaction → Type 0
+OneSide r = (r .asks ≡ none) ⊎ (r .leaves ≡ false)
+
+module _ (r : Reaction) (unasked : r .asks ≡ none) (here : r .leaves ≡ false) where
+  stroll-side : OneSide (stroll r)
+  unfolding stroll
+  stroll-side =
+      choice OneSide (r .process .have) (forward r) (pass r) (inl (forward-asks r ∙ unasked)) (inr (pass-leaves r ∙ here))
+
+  wait-side : (s : Status) (next : ℕ) → OneSide (wait s next r)
+  unfolding wait
+  wait-side s next =
+      let on = changed r (r .envelope) (withStage next (r .process)) in
+      let right-one = Bool·beq (r .envelope .full) s in
+      choice OneSide (r .process .have) (cond right-one on (forward (mark r))) (pass (ask s r))
+      (choice OneSide right-one on (forward (mark r)) (inl unasked) (inl (forward-asks (mark r) ∙ mark-asks r ∙ unasked)))
+      (inr (pass-leaves (ask s r) ∙ ask-leaves s r ∙ here))
+
+  put-at-side : (stage : ℕ) → OneSide (putAt stage r)
+  unfolding ends
+  put-at-side stage =
+      every-stage OneSide stage r stroll-side (wait-side empty 3) (wait-side full 8)
+      (inl (end-put-asks (forward (clear empty r)) ∙ forward-asks (clear empty r) ∙ clear-asks empty r ∙ unasked))
+      (inl (forward-asks (clear full r) ∙ clear-asks full r ∙ unasked)) (inl unasked)
+
+-- ---- and so does every event
+
+module _ (e : Envelope) (p : Process) where
+  work-side : OneSide (work e p)
+  unfolding work
+  work-side = inl (alike asksOf (eqb (p .stage) 3) _ _ refl (alike asksOf (eqb (p .stage) 8) _ (idle e p) refl refl))
+
+  put-side : OneSide (put e p)
+  unfolding put
+  put-side =
+      let r = becomes Moved e (withNews false p) in
+      choice OneSide (p .news) (putAt (p .stage) r) (idle e p) (put-at-side r refl refl (p .stage)) (inl refl)
+
+  start-put-side : (m : ℕ) → OneSide (startPut m e p)
+  unfolding startPut
+  start-put-side m = inl (alike asksOf (eqb (p .stage) 0) _ (idle e p) refl refl)
+
+  start-get-side : OneSide (startGet e p)
+  unfolding startGet
+  start-get-side = inl (alike asksOf (eqb (p .stage) 0) _ (idle e p) refl refl)
+
+  signal-side : OneSide (signal e p)
+  unfolding signal
+  signal-side = inl (alike asksOf (told (p .stage)) _ (idle e p) refl refl)
+
+  receive-side : OneSide (receive e p)
+  unfolding receive
+  receive-side = inl (alike asksOf (p .arriving) _ (idle e p) refl refl)
+
+  hear-side : (s : Status) → OneSide (hear s e p)
+  unfolding hear
+  hear-side s = inl (alike asksOf (for (p .link) s) _ (idle e p) refl refl)
+
+pub one-neighbour : (code m : ℕ) (e : Envelope) (p : Process) → OneSide (react code m e p)
+one-neighbour code m e p =
+    every-code OneSide code m e p (start-put-side e p m) (start-get-side e p) (work-side e p) (signal-side e p)
+    (receive-side e p) (hear-side e p) (put-side e p) (inl refl)
