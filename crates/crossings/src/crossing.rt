@@ -37,7 +37,7 @@ fn left(n: usize, i: usize) -> usize
     if i == 0 { n - 1 } else { i - 1 }
 }
 
-// What crosses in an image of n processes: nothing where the envelope is on no link.
+// Internal: what crosses in an image of n processes: nothing where the envelope is on no link.
 pub fn crossing_in(image: &Buffer, n: usize) -> Crossing
     requires { ⌜ n ≤ 9 ⌝ }
 {

@@ -18,8 +18,8 @@ const RECEIVE_WAITING: u8 = 7;
 // The code of the put thread's event.
 const PUT: u8 = 7;
 
-// A claim by its word: 0 to 5 are on one request, at an even number full and at an odd one empty, 6 is on both and 7 on
-// the state. 8 for a word that is no claim.
+// Internal: a claim by its word: 0 to 5 are on one request, at an even number full and at an odd one empty, 6 is on
+// both and 7 on the state. 8 for a word that is no claim.
 pub fn claim_of(word: &[u8]) -> usize {
     place(
         b"begins-full begins-empty old-full old-empty waits-full waits-empty both state",
@@ -111,7 +111,7 @@ fn both(c: Crossing) {
     status(c.envelope);
 }
 
-// What the claim comes to in an image of n processes, on which a list was performed.
+// Internal: what the claim comes to in an image of n processes, on which a list was performed.
 pub fn finding(claim: usize, image: &Buffer, n: usize, ran: Ran)
     requires { ⌜ n ≤ 9 ⌝ }
 {

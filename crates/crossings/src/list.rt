@@ -30,7 +30,7 @@ enum Came {
     Refused,
 }
 
-// The value of a digit; 255, which is neither a process nor a code, for any other byte.
+// Internal: the value of a digit; 255, which is neither a process nor a code, for any other byte.
 pub fn digit(byte: u8) -> u8 {
     if byte < b'0' {
         return 255;
@@ -100,8 +100,8 @@ fn account(list: &[u8], events: usize, idle: usize, before: u8) -> Ran
     }
 }
 
-// Every event of a list, performed on an image of n processes up to the first that is refused. A list of more than 255
-// events is refused too.
+// Internal: every event of a list, performed on an image of n processes up to the first that is refused. A list of
+// more than 255 events is refused too.
 pub fn replay(image: &mut Buffer, n: usize, list: &[u8]) -> Replayed
     requires { ⌜ n ≤ 9 ⌝ }
 {

@@ -6,7 +6,7 @@ use super::words::say;
 use record::byte::wide;
 ghost use Prim.Native.Nat.{_≤_, _<_};
 
-// The name of a status, 0 for empty and 1 for full.
+// Internal: the name of a status, 0 for empty and 1 for full.
 pub fn status(s: u8) {
     if s == 0 {
         say(b"empty");
@@ -54,7 +54,7 @@ fn process(image: &Buffer, i: usize)
     say(b";");
 }
 
-// The state that an image of n processes holds.
+// Internal: the state that an image of n processes holds.
 pub fn state(image: &Buffer, n: usize)
     requires { ⌜ n ≤ 9 ⌝ }
 {

@@ -4,7 +4,7 @@ use libc::STDOUT_FILENO;
 ghost use Prim.Native.Nat.{_≤_};
 ghost use lib.ListN.{length};
 
-// The first place from `from` on where the text has the mark; the text's end where it has none.
+// Internal: the first place from `from` on where the text has the mark; the text's end where it has none.
 pub fn until(text: &[u8], from: usize, mark: u8) -> usize
     requires { ⌜ from ≤ length (now text) ⌝ }
     ensures { λ r. ⌜ (from ≤ r) × (r ≤ length (now (text .entry))) ⌝ }
@@ -19,8 +19,8 @@ pub fn until(text: &[u8], from: usize, mark: u8) -> usize
     at
 }
 
-// Which word of a list, from 0, a word is; how many there are where it is none of them. A space ends each word of the
-// list but the last.
+// Internal: which word of a list, from 0, a word is; how many there are where it is none of them. A space ends each
+// word of the list but the last.
 pub fn place(words: &[u8], word: &[u8]) -> usize {
     let mut k = 0;
     let mut at = 0;
@@ -38,18 +38,18 @@ pub fn place(words: &[u8], word: &[u8]) -> usize {
     k
 }
 
-// A text.
+// Internal: a text.
 pub fn say(text: &[u8]) {
     io::write_all(STDOUT_FILENO, text);
 }
 
-// A number.
+// Internal: a number.
 pub fn number(n: usize) {
     io::print_decimal(STDOUT_FILENO, n as u64);
 }
 
-// Those words of a list whose bits are set, the first word's bit the lowest. Each word of the list has its space before
-// it.
+// Internal: those words of a list whose bits are set, the first word's bit the lowest. Each word of the list has its
+// space before it.
 pub fn flags(words: &[u8], bits: usize) {
     let mut rest = bits;
     let mut at = 0;
