@@ -23,7 +23,7 @@ ghost use Prim.Native.Nat.{_+_, _≤_, _<_};
 ghost use lib.ListN.{length};
 ghost use Rattle.machine.specs.Events as rule;
 ghost use Rattle.machine.specs.Tape.{eventIn};
-ghost use Rattle.machine.specs.Refusals.{codes as allCodes, eventFits, eventVerdict};
+ghost use Rattle.machine.specs.Refusals.{codes as known, eventFits, eventVerdict};
 ghost use Rattle.put.specs.Ready.{Ready};
 ghost use Rattle.event.specs.Parsed.{eventOf, parsedAs};
 
@@ -82,7 +82,7 @@ impl Event {
 
     // Internal: a single event for n processes; refused with 5 at 0.
     pub fn parse(bytes: &[u8], n: usize) -> Parsed
-        ensures { λ r. ⌜ r ≡ parsedAs (eventVerdict allCodes n (now (bytes .entry))) (eventIn (now (bytes .entry)) 0) ⌝ }
+        ensures { λ r. ⌜ r ≡ parsedAs (eventVerdict known n (now (bytes .entry))) (eventIn (now (bytes .entry)) 0) ⌝ }
     {
         if bytes.len() != 8 {
             return Parsed::Refused(Refusal::Event(0));

@@ -26,7 +26,7 @@ pub fn becomes(outcome: Outcome, e: Envelope, p: Process) -> Reaction
     }
 }
 
-// Internal: code 0: a put starts.
+// Internal: a put starts, code 0.
 pub fn start_put(message: u32, e: Envelope, p: Process) -> Reaction
     ensures { λ r. ⌜ r ≡ rule.startPut message e p ⌝ }
 {
@@ -39,7 +39,7 @@ pub fn start_put(message: u32, e: Envelope, p: Process) -> Reaction
     becomes(Outcome::Idle, e, p)
 }
 
-// Internal: code 1: a get starts.
+// Internal: a get starts, code 1.
 pub fn start_get(e: Envelope, p: Process) -> Reaction
     ensures { λ r. ⌜ r ≡ rule.startGet e p ⌝ }
 {
@@ -52,7 +52,7 @@ pub fn start_get(e: Envelope, p: Process) -> Reaction
     becomes(Outcome::Idle, e, p)
 }
 
-// Internal: code 2, main works: it fills or empties the envelope.
+// Internal: main works, code 2: it fills or empties the envelope.
 pub fn work(e: Envelope, p: Process) -> Reaction
     ensures { λ r. ⌜ r ≡ rule.work e p ⌝ }
 {
@@ -74,7 +74,7 @@ pub fn work(e: Envelope, p: Process) -> Reaction
     becomes(Outcome::Idle, e, p)
 }
 
-// Internal: code 3, get takes the local signal.
+// Internal: get takes the local signal, code 3.
 pub fn signal(e: Envelope, p: Process) -> Reaction
     ensures { λ r. ⌜ r ≡ rule.signal e p ⌝ }
 {
@@ -88,7 +88,7 @@ pub fn signal(e: Envelope, p: Process) -> Reaction
     becomes(Outcome::Idle, e, p)
 }
 
-// Internal: code 4, get takes the arriving envelope.
+// Internal: get takes the arriving envelope, code 4.
 pub fn receive(e: Envelope, p: Process) -> Reaction
     ensures { λ r. ⌜ r ≡ rule.receive e p ⌝ }
 {
@@ -102,7 +102,7 @@ pub fn receive(e: Envelope, p: Process) -> Reaction
     becomes(Outcome::Idle, e, p)
 }
 
-// Internal: codes 5 and 6, get takes the link's request for full or for empty.
+// Internal: get takes the link's request for full or for empty, codes 5 and 6.
 pub fn hear(full: bool, e: Envelope, p: Process) -> Reaction
     ensures { λ r. ⌜ r ≡ rule.hear full e p ⌝ }
 {

@@ -1,10 +1,11 @@
 -- An event changes at most one neighbour: only a process without the envelope asks, and only one with it lets it leave.
--- Each part of a put hands on what another part did for the neighbours. Codes 0 to 6 change none. Assumes nothing.
+-- Each part of a put hands on what another part did for the neighbours. Other events change none. Assumes nothing.
 use Prim.Native.Nat.{ℕ}
 use mathlib.Core.Path.{_≡_, refl, _∙_}
 use mathlib.Core.Bool.{Bool, false, not, cond, Bool·beq}
 use mathlib.Core.Logic.{_⊎_, inl, inr}
 use lib.Dec.{eqb}
+use borrow.Author.Tests.{eqb-true}
 use Rattle.machine.specs.declared.Pair.{Pair}
 use Rattle.machine.specs.declared.Envelope.{Envelope}
 use Rattle.machine.specs.declared.Process.{Process}
@@ -15,7 +16,7 @@ use Rattle.machine.specs.Stages.{told}
 use Rattle.machine.specs.Events.{becomes, changed, idle, ask, passFor, pass, markFor, mark, unmark, clear, wanted}
 use Rattle.machine.specs.Events.{leave, heeding, forward, ends, stroll, wait, endPut, putAt}
 use Rattle.machine.specs.Events.{startPut, startGet, work, signal, receive, hear, put, react}
-use Rattle.machine.proofs.Ways.{choice, every-stage, every-code}
+use Rattle.machine.proofs.Ways.{by-test, choice, every-stage, every-code}
 
 -- a choice between two that agree in something
 alike : {A : Type 0} (f : Reaction → A) (b : Bool) (x y : Reaction) {a : A} → f x ≡ a → f y ≡ a → f (cond b x y) ≡ a
@@ -88,12 +89,41 @@ module _ (r : Reaction) (unasked : r .asks ≡ none) (here : r .leaves ≡ false
       (inl (end-put-asks (forward (clear empty r)) ∙ forward-asks (clear empty r) ∙ clear-asks empty r ∙ unasked))
       (inl (forward-asks (clear full r) ∙ clear-asks full r ∙ unasked)) (inl unasked)
 
--- ---- and so does every event
+-- ---- the other events do neither
+
+-- nothing is asked, and nothing leaves
+abbrev pub NoSide : Reaction → Type 0
+NoSide r = (r .asks ≡ none) × (r .leaves ≡ false)
+
+-- something at the own process, or nothing at all
+own-alone : (e : Envelope) (p : Process) (b : Bool) (x : Reaction) → NoSide x → NoSide (cond b x (idle e p))
+own-alone e p b x alone = choice NoSide b x (idle e p) alone (refl, refl)
 
 module _ (e : Envelope) (p : Process) where
-  work-side : OneSide (work e p)
+  start-put-alone : (m : ℕ) → NoSide (startPut m e p)
+  unfolding startPut
+  start-put-alone m = own-alone e p (eqb (p .stage) 0) _ (refl, refl)
+
+  start-get-alone : NoSide (startGet e p)
+  unfolding startGet
+  start-get-alone = own-alone e p (eqb (p .stage) 0) _ (refl, refl)
+
+  work-alone : NoSide (work e p)
   unfolding work
-  work-side = inl (alike asksOf (eqb (p .stage) 3) _ _ refl (alike asksOf (eqb (p .stage) 8) _ (idle e p) refl refl))
+  work-alone =
+      choice NoSide (eqb (p .stage) 3) _ _ (refl, refl) (own-alone e p (eqb (p .stage) 8) _ (refl, refl))
+
+  signal-alone : NoSide (signal e p)
+  unfolding signal
+  signal-alone = own-alone e p (told (p .stage)) _ (refl, refl)
+
+  receive-alone : NoSide (receive e p)
+  unfolding receive
+  receive-alone = own-alone e p (p .arriving) _ (refl, refl)
+
+  hear-alone : (s : Status) → NoSide (hear s e p)
+  unfolding hear
+  hear-alone s = own-alone e p (for (p .link) s) _ (refl, refl)
 
   put-side : OneSide (put e p)
   unfolding put
@@ -101,27 +131,23 @@ module _ (e : Envelope) (p : Process) where
       let r = becomes Moved e (withNews false p) in
       choice OneSide (p .news) (putAt (p .stage) r) (idle e p) (put-at-side r refl refl (p .stage)) (inl refl)
 
-  start-put-side : (m : ℕ) → OneSide (startPut m e p)
-  unfolding startPut
-  start-put-side m = inl (alike asksOf (eqb (p .stage) 0) _ (idle e p) refl refl)
-
-  start-get-side : OneSide (startGet e p)
-  unfolding startGet
-  start-get-side = inl (alike asksOf (eqb (p .stage) 0) _ (idle e p) refl refl)
-
-  signal-side : OneSide (signal e p)
-  unfolding signal
-  signal-side = inl (alike asksOf (told (p .stage)) _ (idle e p) refl refl)
-
-  receive-side : OneSide (receive e p)
-  unfolding receive
-  receive-side = inl (alike asksOf (p .arriving) _ (idle e p) refl refl)
-
-  hear-side : (s : Status) → OneSide (hear s e p)
-  unfolding hear
-  hear-side s = inl (alike asksOf (for (p .link) s) _ (idle e p) refl refl)
+-- ---- every event
 
 pub one-neighbour : (code m : ℕ) (e : Envelope) (p : Process) → OneSide (react code m e p)
 one-neighbour code m e p =
-    every-code OneSide code m e p (start-put-side e p m) (start-get-side e p) (work-side e p) (signal-side e p)
-    (receive-side e p) (hear-side e p) (put-side e p) (inl refl)
+    every-code OneSide code m e p (inl (start-put-alone e p m .0)) (inl (start-get-alone e p .0))
+    (inl (work-alone e p .0)) (inl (signal-alone e p .0)) (inl (receive-alone e p .0))
+    (λ s. inl (hear-alone e p s .0)) (put-side e p) (inl refl)
+
+-- only a put reaches a neighbour
+pub only-puts : (code m : ℕ) (e : Envelope) (p : Process) → (code ≡ 7 → ⊥) → NoSide (react code m e p)
+unfolding react
+only-puts code m e p other =
+    choice NoSide (eqb code 0) _ _ (start-put-alone e p m)
+    (choice NoSide (eqb code 1) _ _ (start-get-alone e p)
+    (choice NoSide (eqb code 2) _ _ (work-alone e p)
+    (choice NoSide (eqb code 3) _ _ (signal-alone e p)
+    (choice NoSide (eqb code 4) _ _ (receive-alone e p)
+    (choice NoSide (eqb code 5) _ _ (hear-alone e p full)
+    (choice NoSide (eqb code 6) _ _ (hear-alone e p empty)
+    (by-test NoSide (eqb code 7) _ _ (λ is. absurd (other (eqb-true code 7 is))) (λ _. (refl, refl)))))))))

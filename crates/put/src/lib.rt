@@ -197,7 +197,8 @@ fn end_put(r: Reaction) -> Reaction
     if r.leaves { ends(Outcome::Sent, r) } else { r }
 }
 
-// Internal: the put step, by the stage that it finds.
+// Internal: the put step, by the stage that it finds. Stages 3, 4, 8 and 9 do no more, and no sound image has one above
+// 10.
 pub fn put_at(r: Reaction) -> Reaction
     requires { ⌜ Ready (r .envelope) (r .process) ⌝ }
     ensures { λ t. ⌜ t ≡ rule.putAt (r .process .stage) r ⌝ }

@@ -58,6 +58,7 @@ fn arrive(image: &mut [u8], k: usize, leaves: bool)
     put_process(image, k, arrived(p));
 }
 
+// Whether an event came to nothing.
 fn is_idle(outcome: Outcome) -> bool
     ensures { λ r. ⌜ r ≡ isIdle outcome ⌝ }
 {
@@ -111,7 +112,7 @@ pub fn perform(image: &mut [u8], event: Event) -> Outcome
 }
 
 // The step call: the event's outcome, and the image as the event leaves it. Refused with 3 or 4 for the image, 5 for
-// the event.
+// the event. An answer of a lower layer is done or refused, so the inner else is never reached.
 pub fn step(image: &mut [u8], event: &[u8]) -> StepAnswer
     ensures answer { λ r. ⌜ told r ≡ stepAnswer (now (image .entry)) (now (event .entry)) ⌝ }
     ensures buffer { λ _. ⌜ now (image .exit) ≡ stepImage (now (image .entry)) (now (event .entry)) ⌝ }

@@ -39,7 +39,8 @@ fn are_quiet(image: &[u8], n: usize) -> bool
     quiet
 }
 
-// The stopped call: whether the ring is stopped. Refused with 3 or 4 for the image.
+// The stopped call: whether the ring is stopped. Refused with 3 or 4 for the image. The test's answer is done or
+// refused, so the inner else is never reached.
 pub fn stopped(image: &[u8]) -> StoppedAnswer
     ensures { λ r. ⌜ told r ≡ stoppedAnswer (now (image .entry)) ⌝ }
 {

@@ -29,7 +29,7 @@ returns-3 c =
     let a = c .before .before .before .before .args in
     let size : SizeFits (a .n) = record { least = c .before .before .if1 .left; most = c .before .if2 .left } in
     fresh-refused (a .n) (a .home) (a .image .now) refusal.Home
-    (fresh-no-home (a .n) (a .home) (a .image .now) size (c .if3 .taken))
+    (fresh-no-home (a .n) (a .home) (a .image .now) size (omega (arith, c .if3 .taken)))
 
 mul-count : tie.Need-mul-count
 mul-count c = omega arith
