@@ -2,7 +2,8 @@
 -- moved, sent or got; every other event that does something says moved, fill or take. Assumes nothing.
 use Prim.Native.Nat.{ℕ, _+_}
 use mathlib.Core.Path.{_≡_, refl, sym, ap, _∙_}
-use mathlib.Core.Bool.{Bool, true, false, not, cond, true≢false, or-false, Bool·beq}
+use mathlib.Core.Bool.{Bool, true, false, not, cond, true≢false, or-false}
+use mathlib.Core.Logic.{_⊎_, inl, inr}
 use mathlib.Core.List.{List}
 use lib.ListN.{set}
 use lib.Seq.{set-getD}
@@ -10,18 +11,19 @@ use lib.Dec.{eqb}
 use Rattle.machine.specs.declared.Envelope.{Envelope}
 use Rattle.machine.specs.declared.Process.{Process}
 use Rattle.machine.specs.declared.Reaction.{Reaction}
-use Rattle.machine.specs.declared.Outcome.the-variants.{Moved, Fill, Take}
+use Rattle.machine.specs.declared.Outcome.{Outcome}
+use Rattle.machine.specs.declared.Outcome.the-variants.{Moved, Fill, Take, Sent, Got}
 use Rattle.machine.specs.Fields.{Status, full, empty, none, for, with, holding, blank, withStage, withHave}
 use Rattle.machine.specs.Fields.{withArriving, withNews, withAsked, withLink, withNote}
 use Rattle.machine.specs.Image.{State}
 use Rattle.machine.specs.Stages.{told}
-use Rattle.machine.specs.Events.{Event, becomes, changed, idle, ask, passFor, pass, markFor, mark, unmark, clear}
+use Rattle.machine.specs.Events.{Event, becomes, idle, ask, markFor, mark, unmark, clear}
 use Rattle.machine.specs.Events.{wanted, leave}
-use Rattle.machine.specs.Events.{heeding, forward, ends, stroll, wait, endPut, putAt}
+use Rattle.machine.specs.Events.{heeding, forward, ends, putAt}
 use Rattle.machine.specs.Events.{startPut, startGet, work, signal, receive, hear, put, react}
 use Rattle.machine.specs.Events.{requested, arrived, processAt, change, place, reaction, outcome, apply}
 use Rattle.machine.specs.Stopped.{isIdle}
-use Rattle.machine.proofs.Ways.{choice, every-stage, every-code}
+use Rattle.machine.proofs.Ways.{choice, put-keeps, every-code}
 
 -- ---- a put moves
 
@@ -37,14 +39,6 @@ ask-moves : (s : Status) (r : Reaction) → Moves r → Moves (ask s r)
 unfolding ask
 ask-moves s r h = choice Moves (for (r .process .itself) s) r _ h h
 
-pass-for-moves : (s : Status) (r : Reaction) → Moves r → Moves (passFor s r)
-unfolding passFor
-pass-for-moves s r h = choice Moves (for (r .process .asked) s) (ask s r) r (ask-moves s r h) h
-
-pass-moves : (r : Reaction) → Moves r → Moves (pass r)
-unfolding pass
-pass-moves r h = pass-for-moves empty (passFor full r) (pass-for-moves full r h)
-
 mark-moves : (r : Reaction) → Moves r → Moves (mark r)
 unfolding mark markFor
 mark-moves r h = choice Moves (for (r .process .mark) (not (r .envelope .full))) r _ h h
@@ -57,28 +51,14 @@ forward-moves : (r : Reaction) → Moves r → Moves (forward r)
 unfolding forward leave heeding
 forward-moves r h = choice Moves (wanted (heeding r .envelope)) (leave (heeding r)) (heeding r) h h
 
-stroll-moves : (r : Reaction) → Moves r → Moves (stroll r)
-unfolding stroll
-stroll-moves r h = choice Moves (r .process .have) (forward r) (pass r) (forward-moves r h) (pass-moves r h)
-
-wait-moves : (s : Status) (next : ℕ) (r : Reaction) → Moves r → Moves (wait s next r)
-unfolding wait
-wait-moves s next r h =
-    let on = changed r (r .envelope) (withStage next (r .process)) in
-    let right-one = Bool·beq (r .envelope .full) s in
-    choice Moves (r .process .have) (cond right-one on (forward (mark r))) (pass (ask s r))
-    (choice Moves right-one on (forward (mark r)) h (forward-moves (mark r) (mark-moves r h)))
-    (pass-moves (ask s r) (ask-moves s r h))
-
-end-put-moves : (r : Reaction) → Moves r → Moves (endPut r)
-unfolding endPut ends
-end-put-moves r h = choice Moves (r .leaves) _ r refl h
+-- a put that is over was sent or got
+over-moves : (o : Outcome) (r : Reaction) → (o ≡ Sent) ⊎ (o ≡ Got) → Moves r → Moves (ends o r)
+unfolding ends
+over-moves o r (inl e) h = rw e
+over-moves o r (inr e) h = rw e
 
 pub put-at-moves : (stage : ℕ) (r : Reaction) → Moves r → Moves (putAt stage r)
-unfolding ends
-put-at-moves stage r h =
-    every-stage Moves stage r (stroll-moves r h) (wait-moves empty 3 r h) (wait-moves full 8 r h)
-    (end-put-moves (forward (clear empty r)) (forward-moves (clear empty r) (clear-moves empty r h))) refl h
+put-at-moves = put-keeps Moves ask-moves mark-moves clear-moves forward-moves (λ next r h. h) over-moves
 
 -- ---- an event that says idle does nothing
 

@@ -32,7 +32,7 @@ loop-again c =
     let l = c .before .loop in
     let s = c .before .before .args .bytes .now in
     let more = ap (λ t. set t (l .i) 0) (l .inv .2) ∙ cleared-more s (l .i) (omega arith) in
-    (omega arith, length-set (l .bytes) (l .i) 0 ∙ l .inv .1, more)
+    (omega arith, simp length-set (l .inv .1), more)
 
 same-length : tie.Need-same-length Inv-loop μ-loop
 same-length c = c .before .loop .inv .1
