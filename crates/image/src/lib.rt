@@ -1,9 +1,8 @@
 // The ring type: its sizes, the neighbours of a process, and the fresh ring call.
 use machine::Refusal;
+use span::clear;
 ghost use mathlib.Core.Path.{_≡_};
-ghost use Prim.Native.Nat.{_≤_, _<_};
-ghost use lib.ListN.{length, replicate};
-ghost use Rattle.machine.specs.Bytes.{splice};
+ghost use Prim.Native.Nat.{_<_};
 ghost use Rattle.machine.specs.Ring as neighbour;
 ghost use Rattle.machine.specs.Answers.{freshAnswer, freshImage};
 ghost use Rattle.image.specs.Fresh.{told};
@@ -17,16 +16,6 @@ pub struct Ring {
 pub enum FreshAnswer {
     Done,
     Refused(Refusal),
-}
-
-// Zeros over the first bytes of a buffer.
-fn clear(bytes: &mut [u8], count: usize)
-    requires { ⌜ count ≤ length (now bytes) ⌝ }
-    ensures { λ _. ⌜ now (bytes .exit) ≡ splice (now (bytes .entry)) 0 (replicate count 0) ⌝ }
-{
-    for i in 0..count {
-        bytes[i] = 0;
-    }
 }
 
 impl Ring {
@@ -55,7 +44,7 @@ impl Ring {
             return FreshAnswer::Refused(Refusal::Short);
         }
         let at = 16 + 8 * home as usize;
-        clear(image, count);
+        clear(image, 0, count);
         image[0] = n as u8;
         image[at + 1] = 1;
         FreshAnswer::Done

@@ -58,6 +58,9 @@ zeros-0 : (s : List ℕ) (at : ℕ) → zeros s at 0 ≡ true
 unfolding zeros allZero
 zeros-0 s at = refl
 
+pub number-2 : (s : List ℕ) (at : ℕ) → number s at 2 ≡ getD s at 0 + 256 * getD s (at + 1) 0
+number-2 s at = rw (number-more s at 1, number-more s (at + 1) 0, number-0 s (at + 1 + 1)) (omega arith)
+
 pub number-4 : (s : List ℕ) (at : ℕ)
     → number s at 4 ≡ getD s at 0 + 256 * getD s (at + 1) 0 + 65536 * getD s (at + 2) 0 + 16777216 * getD s (at + 3) 0
 number-4 s at =

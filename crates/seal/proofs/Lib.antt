@@ -1,0 +1,4 @@
+-- Laws that the functions of this crate cite.
+pub mod Sums
+pub mod Words
+pub mod Pass
