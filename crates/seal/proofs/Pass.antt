@@ -24,9 +24,10 @@ module _ (s : List ℕ) (b : ℕ) (room : 512 * b + 512 ≤ length s) where
     front : (getD ws 0 0 ≡ first) × (getD ws 1 0 ≡ second)
     front =
         let n = 512 * b in
-        let e : n + 2 * 0 ≡ n = omega arith in
-        (word-front s b room 0 (omega arith) ∙ ap (λ (k : ℕ). number s k 2) e ∙ sym one,
-        word-front s b room 1 (omega arith) ∙ sym two)
+        let e : n + 2 * 0 ≡ n = omega arith in (
+          word-front s b room 0 (omega arith) ∙ ap (λ (k : ℕ). number s k 2) e ∙ sym one,
+          word-front s b room 1 (omega arith) ∙ sym two,
+        )
 
     pub total-start : first + second + total (drop 2 ws) ≡ total ws
     total-start =
@@ -37,9 +38,9 @@ module _ (s : List ℕ) (b : ℕ) (room : 512 * b + 512 ≤ length s) where
     weighed-start =
         let long = length-covered-words s b room in
         let p : (length ws - 0) * getD ws 0 0 ≡ 254 * first =
-            ap₂ (λ (x y : ℕ). (x - 0) * y) long (front .0) in
+        ap₂ (λ (x y : ℕ). (x - 0) * y) long (front .0) in
         let q : (length ws - 1) * getD ws 1 0 ≡ 253 * second =
-            ap₂ (λ (x y : ℕ). (x - 1) * y) long (front .1) in
+        ap₂ (λ (x y : ℕ). (x - 1) * y) long (front .1) in
         omega (arith, weighed-on ws 0 (omega arith), weighed-on ws 1 (omega arith), p, q)
 
   -- word k of the slots
@@ -58,7 +59,7 @@ module _ (s : List ℕ) (b : ℕ) (room : 512 * b + 512 ≤ length s) where
     weighed-next sum e =
         let long = length-covered-words s b room in
         let p : (length ws - (2 + k)) * getD ws (2 + k) 0 ≡ (252 - k) * word =
-            ap₂ (λ (x y : ℕ). x * y) (omega arith) (word-slots s b room k h ∙ sym is) in
+        ap₂ (λ (x y : ℕ). x * y) (omega arith) (word-slots s b room k h ∙ sym is) in
         rw (← next) (omega (arith, weighed-on ws (2 + k) (omega arith), p))
 
   -- after the last word

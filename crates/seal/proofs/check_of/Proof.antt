@@ -58,9 +58,13 @@ loop-holds c =
     let d = c .before .before .before in
     let s = d .args .tape .now in
     let one = c .before .word-at .ensures .0 in
-    let two = c .word-at2 .ensures .0 in
-    (omega arith, omega arith, omega arith, total-start s (d .args .b) (d .pre) one two,
-    weighed-start s (d .args .b) (d .pre) one two)
+    let two = c .word-at2 .ensures .0 in (
+      omega arith,
+      omega arith,
+      omega arith,
+      total-start s (d .args .b) (d .pre) one two,
+      weighed-start s (d .args .b) (d .pre) one two,
+    )
 
 -- src/lib.rt:29:34
 add-word-at-2 : tie.Need-add-word-at-2 Inv-loop μ-loop
@@ -118,9 +122,13 @@ loop-again c =
     let s = d .args .tape .now in
     let below : l .k < 252 = omega arith in
     let is = c .word-at3 .ensures .0 in
-    let w = product-small (252 - l .k) (c .word-at3 .result) (omega arith) (c .word-at3 .ensures .1) in
-    (omega arith, omega arith, omega arith, total-next s (d .args .b) (d .pre) below is (l .total) (l .inv .3),
-    weighed-next s (d .args .b) (d .pre) below is (l .weighed) (l .inv .4))
+    let w = product-small (252 - l .k) (c .word-at3 .result) (omega arith) (c .word-at3 .ensures .1) in (
+      omega arith,
+      omega arith,
+      omega arith,
+      total-next s (d .args .b) (d .pre) below is (l .total) (l .inv .3),
+      weighed-next s (d .args .b) (d .pre) below is (l .weighed) (l .inv .4),
+    )
 
 -- src/lib.rt:34:21
 mul-result : tie.Need-mul-result Inv-loop μ-loop

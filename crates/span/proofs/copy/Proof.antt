@@ -41,8 +41,8 @@ loop-again c =
     let l = c .before .before .loop in
     let a = c .before .before .before .args in
     let more =
-        ap (λ t. set t (a .start + l .i) (getD (a .from .now) (a .at + l .i) 0)) (l .inv .2)
-        ∙ copy-more (a .to .now) (a .start) (l .i) (omega arith) (a .from .now) (a .at) _ (omega arith) refl in
+    ap (λ t. set t (a .start + l .i) (getD (a .from .now) (a .at + l .i) 0)) (l .inv .2)
+    ∙ copy-more (a .to .now) (a .start) (l .i) (omega arith) (a .from .now) (a .at) _ (omega arith) refl in
     (omega arith, simp length-set (l .inv .1), more)
 
 same-length : tie.Need-same-length Inv-loop μ-loop

@@ -1,0 +1,7 @@
+-- Laws that the functions of this crate cite.
+pub mod Joined
+pub mod First
+pub mod Blocks
+pub mod Lengths
+pub mod Apart
+pub mod Ways

@@ -1,0 +1,152 @@
+-- Each way through the tape's test, with what the functions read as variables. Assumes nothing.
+use Prim.Native.Nat.{ℕ, _+_, _-_, _*_, _/_, _%_, _≤_}
+use mathlib.Core.Path.{_≡_, refl, sym, ap, _∙_}
+use mathlib.Core.Bool.{Bool, true, false, _&&_, _||_}
+use mathlib.Core.List.{List}
+use native.Mathlib.Omega.{arith}
+use lib.ListN.{length}
+use lib.Dec.{eqb, leb}
+use borrow.Author.Tests.{eq-eqb, ne-eqb}
+use Rattle.machine.specs.declared.Refusal.{Refusal}
+use Rattle.machine.specs.declared.Refusal.the-variants as refusal
+use Rattle.machine.specs.declared.Verdict.{Verdict}
+use Rattle.machine.specs.declared.Verdict.the-variants as verdict
+use Rattle.machine.specs.Bytes.{zeros}
+use Rattle.machine.specs.Tape.{check, covered, slotAt, blockNumber, blockCount, blockCheck}
+use Rattle.machine.specs.Refusals.{orElse, first, eventFits, lengthVerdict, mostBlocks, blockFits, checkVerdict}
+use Rattle.machine.specs.Refusals.{numberVerdict, usedVerdict, unusedVerdict, blockVerdict, tapeVerdict}
+use Rattle.machine.proofs.Refusals.{unless-fine, second-fine}
+use Rattle.blocks.specs.declared.Counted.the-variants.{Done, Refused}
+use Rattle.blocks.specs.Counted.{countedAs, headVerdict, eventsOn}
+use Rattle.blocks.proofs.First.{first-start}
+use Rattle.blocks.proofs.Blocks.{fits-most, slotTest, tape-fine}
+use Rattle.blocks.proofs.Lengths.{length-list}
+
+-- ---- the length
+
+module _ (unit least most : ℕ) (s : List ℕ) where
+  -- the test as code makes it
+  abbrev lengthFits : Bool
+  lengthFits = eqb (length s % unit) 0 && leb least (length s / unit) && leb (length s / unit) most
+
+  pub length-fits : lengthFits ≡ true → verdict.Fine ≡ lengthVerdict unit least most s
+  unfolding lengthVerdict
+  length-fits e = rw e
+
+  pub length-unfit : lengthFits ≡ false → verdict.Refused refusal.Length ≡ lengthVerdict unit least most s
+  unfolding lengthVerdict
+  length-unfit e = rw e
+
+-- ---- a block's head
+
+module _ (s : List ℕ) (b : ℕ) {sum written : ℕ} (one : sum ≡ check (covered s b)) (two : written ≡ blockCheck s b) where
+  pub head-damaged : (sum ≡ written → ⊥)
+      → Refused (refusal.Check b) ≡ countedAs (headVerdict s b) (blockCount s b)
+  unfolding checkVerdict
+  head-damaged ne = rw (ne-eqb (check (covered s b)) (blockCheck s b) (λ e. ne (one ∙ e ∙ sym two)))
+
+  module _ {number count : ℕ} (same : sum ≡ written) (three : number ≡ blockNumber s b) (four : count ≡ blockCount s b)
+    where
+      -- the test as code makes it
+      abbrev headFits : Bool
+      headFits = eqb number b && leb 1 count && leb count 63 && (eqb count 63 || eqb (b + 1) (length s / 512))
+
+      fits-is : headFits ≡ blockFits s b
+      unfolding blockFits
+      fits-is = rw (three, four)
+
+      equal : check (covered s b) ≡ blockCheck s b
+      equal = sym one ∙ same ∙ two
+
+      pub head-fits : headFits ≡ true → Done count ≡ countedAs (headVerdict s b) (blockCount s b)
+      unfolding checkVerdict numberVerdict
+      head-fits e = rw (eq-eqb (check (covered s b)) (blockCheck s b) equal, ← fits-is, e, four)
+
+      pub head-unfit : headFits ≡ false → Refused (refusal.Block b) ≡ countedAs (headVerdict s b) (blockCount s b)
+      unfolding checkVerdict numberVerdict
+      head-unfit e = rw (eq-eqb (check (covered s b)) (blockCheck s b) equal, ← fits-is, e)
+
+-- ---- a block
+
+-- tests in a row, however they are grouped
+else-else : (u v w : Verdict) → orElse u (orElse v w) ≡ orElse (orElse u v) w
+else-else verdict.Fine v w = refl
+else-else (verdict.Refused r) v w = refl
+
+module _ (codes n : ℕ) (s : List ℕ) (b : ℕ) where
+  -- the head first, then the slots
+  by-head : blockVerdict codes n s b
+      ≡ orElse (headVerdict s b) (orElse (usedVerdict codes n s b) (unusedVerdict s b))
+  unfolding blockVerdict
+  by-head = else-else (checkVerdict s b) (numberVerdict s b) (orElse (usedVerdict codes n s b) (unusedVerdict s b))
+
+  pub head-refused : {r : Refusal} → headVerdict s b ≡ verdict.Refused r → blockVerdict codes n s b ≡ verdict.Refused r
+  head-refused e = by-head ∙ rw e
+
+  module _ (fine : headVerdict s b ≡ verdict.Fine) where
+    pub head-count : blockCount s b ≤ 63
+    unfolding numberVerdict
+    head-count = fits-most s b (unless-fine _ (refusal.Block b) (second-fine (checkVerdict s b) _ fine))
+
+    -- what the slots say
+    by-slots : blockVerdict codes n s b ≡ orElse (usedVerdict codes n s b) (unusedVerdict s b)
+    by-slots = by-head ∙ rw fine
+
+    pub used-refused : {r : Refusal} → usedVerdict codes n s b ≡ verdict.Refused r
+        → blockVerdict codes n s b ≡ verdict.Refused r
+    used-refused e = by-slots ∙ rw e
+
+    module _ {clear : Bool} (used : usedVerdict codes n s b ≡ verdict.Fine)
+        (is : clear ≡ zeros s (slotAt b (blockCount s b)) (8 * (63 - blockCount s b))) where
+      pub unused-refused : clear ≡ false → blockVerdict codes n s b ≡ verdict.Refused (refusal.Unused b)
+      unfolding unusedVerdict
+      unused-refused e = by-slots ∙ rw (used, sym is ∙ e)
+
+      pub slots-fine : clear ≡ true → blockVerdict codes n s b ≡ verdict.Fine
+      unfolding unusedVerdict
+      slots-fine e = by-slots ∙ rw (used, sym is ∙ e)
+
+  -- slot j
+  module _ (j : ℕ) {fits : Bool} (is : fits ≡ eventFits codes n s (slotAt b j)) where
+    pub slot-refused : fits ≡ false → slotTest codes n s b j ≡ verdict.Refused (refusal.Event (63 * b + j))
+    slot-refused e = rw (sym is ∙ e)
+
+    pub slot-fine : fits ≡ true → slotTest codes n s b j ≡ verdict.Fine
+    slot-fine e = rw (sym is ∙ e)
+
+  -- before the first slot
+  pub slots-start : {count : ℕ} → count ≡ blockCount s b
+      → first (slotTest codes n s b) 0 (count - 0) ≡ usedVerdict codes n s b
+  unfolding usedVerdict
+  slots-start e = first-start (slotTest codes n s b) _ ∙ ap (first (slotTest codes n s b) 0) e
+
+-- ---- a tape
+
+module _ (codes n : ℕ) (s : List ℕ) {v : Verdict} (is : v ≡ lengthVerdict 512 1 mostBlocks s) where
+  pub length-refused : {r : Refusal} → v ≡ verdict.Refused r → v ≡ tapeVerdict codes n s
+  unfolding tapeVerdict
+  length-refused e = e ∙ rw (sym is ∙ e)
+
+  -- before the first block
+  pub blocks-start : v ≡ verdict.Fine
+      → first (blockVerdict codes n s) 0 (length s / 512 - 0) ≡ tapeVerdict codes n s
+  unfolding tapeVerdict
+  blocks-start e = first-start (blockVerdict codes n s) (length s / 512) ∙ rw (sym is ∙ e)
+
+-- how many events a tape has
+
+module _ (codes n : ℕ) (s : List ℕ) {v : Verdict} (is : v ≡ tapeVerdict codes n s) where
+  pub counted-refused : {r : Refusal} → v ≡ verdict.Refused r
+      → Refused r ≡ countedAs (tapeVerdict codes n s) (eventsOn s)
+  counted-refused e = rw (sym is ∙ e)
+
+  module _ (fine : v ≡ verdict.Fine) where
+    pub some-block : 1 ≤ length s / 512
+    some-block = tape-fine codes n s (sym is ∙ fine) .some
+
+    pub counted-done : {count : ℕ} → count ≡ blockCount s (length s / 512 - 1)
+        → Done (63 * (length s / 512 - 1) + count) ≡ countedAs (tapeVerdict codes n s) (eventsOn s)
+    counted-done {count} e =
+        let events : 63 * (length s / 512 - 1) + count ≡ eventsOn s =
+        omega (arith, length-list s (tape-fine codes n s (sym is ∙ fine))) in
+        rw (sym is ∙ fine, events)

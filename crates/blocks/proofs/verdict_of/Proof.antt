@@ -1,0 +1,257 @@
+-- What is left to test, of the tape and of the block in hand, decides for all, since what came before is fine. Assumes nothing.
+use Prim.Native.Nat.{ℕ, _+_, _-_, _*_, _/_, _≤_}
+use mathlib.Core.Path.{_≡_, refl, sym, ap, _∙_}
+use native.Mathlib.Omega.{arith}
+use lib.ListN.{length}
+use borrow.Author.Tests.{not-true, not-false}
+use borrow.Author.Needs.{needs}
+use Rattle.machine.specs.declared.Verdict.the-variants.{Fine}
+use Rattle.machine.specs.Bytes.{zeros}
+use Rattle.machine.specs.Tape.{slotAt, blockCount}
+use Rattle.blocks.specs.Counted.{headVerdict}
+use Rattle.machine.specs.Refusals.{first, blockVerdict, usedVerdict, tapeVerdict}
+use Rattle.blocks.proofs.First.{first-on, first-found, first-end}
+use Rattle.blocks.proofs.Blocks.{slotTest}
+use Rattle.blocks.proofs.Apart.{refused-is, done-fine, done-events}
+use Rattle.blocks.proofs.Ways.{head-refused, head-count, used-refused, unused-refused, slots-fine, slot-refused, slot-fine}
+use Rattle.blocks.proofs.Ways.{slots-start, length-refused, blocks-start}
+use Rattle.blocks.proofs.verdict_of.Statement.{statement}
+use Rattle.blocks.proofs.verdict_of.Tie as tie
+
+abbrev Inv-loop : tie.InvT-loop
+Inv-loop tape n codes verdict₀ b count slots j₀ b-end verdict j =
+    (j ≤ count) × (verdict ≡ Fine) × (first (slotTest codes n tape b) j (count - j) ≡ usedVerdict codes n tape b)
+
+abbrev μ-loop : tie.MeasureT-loop
+μ-loop tape n codes verdict₀ b count slots j₀ b-end verdict j = count - j
+
+abbrev Inv-blocks2 : tie.InvT-blocks2
+Inv-blocks2 tape n codes verdict₀ b₀ b-end verdict b =
+    (b ≤ b-end) × (verdict ≡ Fine) × (first (blockVerdict codes n tape) b (b-end - b) ≡ tapeVerdict codes n tape)
+
+abbrev μ-blocks2 : tie.MeasureT-blocks2
+μ-blocks2 tape n codes verdict₀ b₀ b-end verdict b = b-end - b
+
+-- the block in hand: its head is fine, and its count is the rule's
+fine : (c : tie.After-known-told Inv-loop μ-loop Inv-blocks2 μ-blocks2)
+    → headVerdict (c .before .before .before .before .before .before .before .before .before .before .args .tape .now) (c .before .before .before .before .before .blocks2 .b) ≡ Fine
+fine c = done-fine _ _ (c .before .before .before .head .ensures) (c .before .counted .given .1)
+
+counts : (c : tie.After-known-told Inv-loop μ-loop Inv-blocks2 μ-blocks2)
+    → c .before .counted .given .0 .0 ≡ blockCount (c .before .before .before .before .before .before .before .before .before .before .args .tape .now) (c .before .before .before .before .before .blocks2 .b)
+counts c =
+    let a = c .before .before .before .before .before .before .before .before .before .before .args in
+    done-events (headVerdict (a .tape .now) (c .before .before .before .before .before .blocks2 .b)) _ (c .before .before .before .head .ensures)
+    (c .before .counted .given .1)
+
+few : (c : tie.After-known-told Inv-loop μ-loop Inv-blocks2 μ-blocks2) → c .before .counted .given .0 .0 ≤ 63
+few c =
+    let a = c .before .before .before .before .before .before .before .before .before .before .args in
+    omega (arith, head-count (a .codes) (a .n) (a .tape .now) (c .before .before .before .before .before .blocks2 .b) (fine c), counts c)
+
+length-verdict-requires : tie.Need-length-verdict-requires Inv-loop μ-loop Inv-blocks2 μ-blocks2
+length-verdict-requires c κs = omega arith
+
+enum-told : tie.Need-enum-told Inv-loop μ-loop Inv-blocks2 μ-blocks2
+enum-told c = omega arith
+
+enum-told-2 : tie.Need-enum-told-2 Inv-loop μ-loop Inv-blocks2 μ-blocks2
+enum-told-2 c = omega arith
+
+returns : tie.Need-returns Inv-loop μ-loop Inv-blocks2 μ-blocks2
+returns c =
+    let a = c .before .before .before .before .args in
+    length-refused (a .codes) (a .n) (a .tape .now) (c .before .before .length-verdict .ensures) (c .enum-told2 .given .1)
+
+blocks2-holds : tie.Need-blocks2-holds Inv-loop μ-loop Inv-blocks2 μ-blocks2
+blocks2-holds c =
+    let a = c .before .before .before .before .args in
+    let is = c .enum-told .given .1 in
+    (omega arith, is, blocks-start (a .codes) (a .n) (a .tape .now) (c .before .before .length-verdict .ensures) is)
+
+head-requires : tie.Need-head-requires Inv-loop μ-loop Inv-blocks2 μ-blocks2
+head-requires c κs = omega arith
+
+enum-known-counted : tie.Need-enum-known-counted Inv-loop μ-loop Inv-blocks2 μ-blocks2
+enum-known-counted c = omega arith
+
+enum-known-counted-2 : tie.Need-enum-known-counted-2 Inv-loop μ-loop Inv-blocks2 μ-blocks2
+enum-known-counted-2 c = omega arith
+
+enum-known-counted-3 : tie.Need-enum-known-counted-3 Inv-loop μ-loop Inv-blocks2 μ-blocks2
+enum-known-counted-3 c = omega arith
+
+enum-told-3 : tie.Need-enum-told-3 Inv-loop μ-loop Inv-blocks2 μ-blocks2
+enum-told-3 c = omega arith
+
+mul-slots : tie.Need-mul-slots Inv-loop μ-loop Inv-blocks2 μ-blocks2
+mul-slots c = omega arith
+
+add-slots : tie.Need-add-slots Inv-loop μ-loop Inv-blocks2 μ-blocks2
+add-slots c = omega arith
+
+loop-holds : tie.Need-loop-holds Inv-loop μ-loop Inv-blocks2 μ-blocks2
+loop-holds c =
+    let a = c .before .before .before .before .before .before .before .before .before .before .args in
+    let o = c .before .before .before .before .before .blocks2 in
+    (omega arith, o .inv .1, slots-start (a .codes) (a .n) (a .tape .now) (o .b) (counts c))
+
+mul-fits : tie.Need-mul-fits Inv-loop μ-loop Inv-blocks2 μ-blocks2
+mul-fits c = omega (arith, few (c .before .before))
+
+add-fits : tie.Need-add-fits Inv-loop μ-loop Inv-blocks2 μ-blocks2
+add-fits c = omega (arith, few (c .before .before))
+
+fits-requires : tie.Need-fits-requires Inv-loop μ-loop Inv-blocks2 μ-blocks2
+fits-requires c κs = omega (arith, few (c .before .before))
+
+mul-t19 : tie.Need-mul-t19 Inv-loop μ-loop Inv-blocks2 μ-blocks2
+mul-t19 c = omega (arith, few (c .before .before .before .before))
+
+add-t20 : tie.Need-add-t20 Inv-loop μ-loop Inv-blocks2 μ-blocks2
+add-t20 c = omega (arith, few (c .before .before .before .before))
+
+add-j : tie.Need-add-j Inv-loop μ-loop Inv-blocks2 μ-blocks2
+add-j c = omega arith
+
+loop-less : tie.Need-loop-less Inv-loop μ-loop Inv-blocks2 μ-blocks2
+loop-less c = omega arith
+
+loop-again : tie.Need-loop-again Inv-loop μ-loop Inv-blocks2 μ-blocks2
+loop-again c =
+    let k = c .before .before .before .before in
+    let a = k .before .before .before .before .before .before .before .before .before .before .args in
+    let o = k .before .before .before .before .before .blocks2 in
+    let l = c .before .before .before .loop in
+    let s = a .tape .now in
+    let fits = slot-fine (a .codes) (a .n) s (o .b) (l .j) (c .before .fits2 .ensures) (not-false _ (c .if1 .left)) in (
+      omega arith,
+      l .inv .1,
+      sym (first-on (slotTest (a .codes) (a .n) s (o .b)) (l .j) _ (omega arith) fits) ∙ l .inv .2,
+    )
+
+mul-is-clear : tie.Need-mul-is-clear Inv-loop μ-loop Inv-blocks2 μ-blocks2
+mul-is-clear c = omega (arith, few (c .before .before))
+
+add-is-clear : tie.Need-add-is-clear Inv-loop μ-loop Inv-blocks2 μ-blocks2
+add-is-clear c = omega (arith, few (c .before .before))
+
+sub-is-clear : tie.Need-sub-is-clear Inv-loop μ-loop Inv-blocks2 μ-blocks2
+sub-is-clear c = omega (arith, few (c .before .before))
+
+mul-is-clear-2 : tie.Need-mul-is-clear-2 Inv-loop μ-loop Inv-blocks2 μ-blocks2
+mul-is-clear-2 c = omega (arith, few (c .before .before))
+
+is-clear-requires : tie.Need-is-clear-requires Inv-loop μ-loop Inv-blocks2 μ-blocks2
+is-clear-requires c κs = omega (arith, few (c .before .before))
+
+add-b : tie.Need-add-b Inv-loop μ-loop Inv-blocks2 μ-blocks2
+add-b c = omega arith
+
+blocks2-less : tie.Need-blocks2-less Inv-loop μ-loop Inv-blocks2 μ-blocks2
+blocks2-less c = omega arith
+
+blocks2-again : tie.Need-blocks2-again Inv-loop μ-loop Inv-blocks2 μ-blocks2
+blocks2-again c =
+    let k = c .before .before .before .before in
+    let a = k .before .before .before .before .before .before .before .before .before .before .args in
+    let o = k .before .before .before .before .before .blocks2 in
+    let l = c .before .before .before .loop in
+    let s = a .tape .now in
+    let row = slotTest (a .codes) (a .n) s (o .b) in
+    let used = sym (l .inv .2) ∙ first-end row (l .j) (k .before .counted .given .0 .0) (omega arith) in
+    let is = c .before .is-clear .ensures ∙ ap (λ (m : ℕ). zeros s (slotAt (o .b) m) (8 * (63 - m))) (counts k) in
+    let block = slots-fine (a .codes) (a .n) s (o .b) (fine k) used is (not-false _ (c .if2 .left)) in (
+      omega arith,
+      l .inv .1,
+      sym (first-on (blockVerdict (a .codes) (a .n) s) (o .b) _ (omega arith) block) ∙ o .inv .2,
+    )
+
+returns-2 : tie.Need-returns-2 Inv-loop μ-loop Inv-blocks2 μ-blocks2
+returns-2 c =
+    let a = c .before .before .before .before .before .before .args in
+    let o = c .before .blocks2 in
+    o .inv .1 ∙ sym (first-end (blockVerdict (a .codes) (a .n) (a .tape .now)) (o .b) _ (omega arith)) ∙ o .inv .2
+
+returns-3 : tie.Need-returns-3 Inv-loop μ-loop Inv-blocks2 μ-blocks2
+returns-3 c = search needs
+
+returns-4 : tie.Need-returns-4 Inv-loop μ-loop Inv-blocks2 μ-blocks2
+returns-4 c =
+    let d = c .before .before .before .before .before .before in
+    let o = d .before .before .blocks2 in
+    let a = d .before .before .before .before .before .before .before .args in
+    let s = a .tape .now in
+    let head =
+    refused-is (headVerdict s (o .b)) _ (d .head .ensures)
+    (c .before .before .before .before .counted2 .given .1 ∙ c .before .counted3 .given .1) in
+    let block = head-refused (a .codes) (a .n) s (o .b) head in
+    sym (first-found (blockVerdict (a .codes) (a .n) s) (o .b) _ (omega arith) block) ∙ o .inv .2
+
+returns-5 : tie.Need-returns-5 Inv-loop μ-loop Inv-blocks2 μ-blocks2
+returns-5 c =
+    let k = c .before .before .before .before in
+    let a = k .before .before .before .before .before .before .before .before .before .before .args in
+    let o = k .before .before .before .before .before .blocks2 in
+    let l = c .before .before .before .loop in
+    let s = a .tape .now in
+    let slot = slot-refused (a .codes) (a .n) s (o .b) (l .j) (c .before .fits2 .ensures) (not-true _ (c .if1 .taken)) in
+    let used = sym (l .inv .2) ∙ first-found (slotTest (a .codes) (a .n) s (o .b)) (l .j) _ (omega arith) slot in
+    let block = used-refused (a .codes) (a .n) s (o .b) (fine k) used in
+    sym (first-found (blockVerdict (a .codes) (a .n) s) (o .b) _ (omega arith) block) ∙ o .inv .2
+
+returns-6 : tie.Need-returns-6 Inv-loop μ-loop Inv-blocks2 μ-blocks2
+returns-6 c =
+    let k = c .before .before .before .before in
+    let a = k .before .before .before .before .before .before .before .before .before .before .args in
+    let o = k .before .before .before .before .before .blocks2 in
+    let l = c .before .before .before .loop in
+    let s = a .tape .now in
+    let row = slotTest (a .codes) (a .n) s (o .b) in
+    let used = sym (l .inv .2) ∙ first-end row (l .j) (k .before .counted .given .0 .0) (omega arith) in
+    let is = c .before .is-clear .ensures ∙ ap (λ (m : ℕ). zeros s (slotAt (o .b) m) (8 * (63 - m))) (counts k) in
+    let block = unused-refused (a .codes) (a .n) s (o .b) (fine k) used is (not-true _ (c .if2 .taken)) in
+    sym (first-found (blockVerdict (a .codes) (a .n) s) (o .b) _ (omega arith) block) ∙ o .inv .2
+
+pub verdict-of-spec : {M : Type 1} → statement M
+verdict-of-spec =
+    tie.close
+    (tie.spec
+    Inv-loop
+    μ-loop
+    Inv-blocks2
+    μ-blocks2
+    length-verdict-requires
+    enum-told
+    enum-told-2
+    returns
+    blocks2-holds
+    head-requires
+    enum-known-counted
+    enum-known-counted-2
+    enum-known-counted-3
+    enum-told-3
+    mul-slots
+    add-slots
+    loop-holds
+    mul-fits
+    add-fits
+    fits-requires
+    mul-t19
+    add-t20
+    add-j
+    loop-less
+    loop-again
+    mul-is-clear
+    add-is-clear
+    sub-is-clear
+    mul-is-clear-2
+    is-clear-requires
+    add-b
+    blocks2-less
+    blocks2-again
+    returns-2
+    returns-3
+    returns-4
+    returns-5
+    returns-6)

@@ -1,0 +1,107 @@
+// The tape's test: its length, then block by block the check, number and count, the events of its used slots, and its
+// unused slots. Document 01, "The tape", and the order under its table.
+use event::Event;
+use machine::Refusal;
+use machine::Verdict;
+use record::byte::number_at;
+use seal::check_of;
+use seal::word_at;
+use span::is_clear;
+ghost use mathlib.Core.Path.{_≡_};
+ghost use Prim.Native.Nat.{_+_, _*_, _≤_, _<_};
+ghost use lib.ListN.{length};
+ghost use Rattle.machine.specs.Tape.{blockCount};
+ghost use Rattle.machine.specs.Refusals as rule;
+ghost use Rattle.blocks.specs.Counted.{countedAs, headVerdict, eventsOn};
+
+// How many events a block or a tape has, or its refusal.
+pub enum Counted {
+    Done(usize),
+    Refused(Refusal),
+}
+
+// Internal: the length of a list or a tape: whole units, at least and at most so many; refused with 6.
+pub fn length_verdict(bytes: &[u8], unit: usize, least: usize, most: usize) -> Verdict
+    requires { ⌜ 0 < unit ⌝ }
+    ensures { λ r. ⌜ r ≡ rule.lengthVerdict unit least most (now (bytes .entry)) ⌝ }
+{
+    let units = bytes.len() / unit;
+    if (bytes.len() % unit == 0) & (least <= units) & (units <= most) {
+        Verdict::Fine
+    } else {
+        Verdict::Refused(Refusal::Length)
+    }
+}
+
+// Internal: the most blocks that a tape has.
+pub const MOST_BLOCKS: usize = 65536;
+
+// A block's head: how many of its slots are used. Refused with 7 for its check, 8 for its number or its count.
+fn head(tape: &[u8], b: usize) -> Counted
+    requires { ⌜ 512 * b + 512 ≤ length (now tape) ⌝ }
+    ensures { λ r. ⌜ r ≡ countedAs (headVerdict (now (tape .entry)) b) (blockCount (now (tape .entry)) b) ⌝ }
+{
+    let start = 512 * b;
+    let written = number_at(tape, start + 4);
+    if check_of(tape, b) != written {
+        return Counted::Refused(Refusal::Check(b));
+    }
+    let number = word_at(tape, start) as usize;
+    let count = word_at(tape, start + 2) as usize;
+    let last = b + 1 == tape.len() / 512;
+    if (number == b) & (1 <= count) & (count <= 63) & ((count == 63) | last) {
+        Counted::Done(count)
+    } else {
+        Counted::Refused(Refusal::Block(b))
+    }
+}
+
+// A tape's verdict, for n processes and so many codes. The first event that is refused leaves both loops.
+fn verdict_of(tape: &[u8], n: usize, codes: u8) -> Verdict
+    ensures { λ r. ⌜ r ≡ rule.tapeVerdict codes n (now (tape .entry)) ⌝ }
+{
+    let mut verdict = length_verdict(tape, 512, 1, MOST_BLOCKS);
+    let Verdict::Fine = verdict else {
+        return verdict;
+    };
+    'blocks: for b in 0..tape.len() / 512 {
+        let counted = head(tape, b);
+        let Counted::Done(count) = counted else {
+            let Counted::Refused(refusal) = counted else {
+                break 'blocks;
+            };
+            verdict = Verdict::Refused(refusal);
+            break 'blocks;
+        };
+        let slots = 512 * b + 8;
+        for j in 0..count {
+            if !Event::fits(tape, slots + 8 * j, n, codes) {
+                verdict = Verdict::Refused(Refusal::Event(63 * b + j));
+                break 'blocks;
+            }
+        }
+        if !is_clear(tape, slots + 8 * count, 8 * (63 - count)) {
+            verdict = Verdict::Refused(Refusal::Unused(b));
+            break 'blocks;
+        }
+    }
+    verdict
+}
+
+impl Counted {
+    // Internal: the tape's test: how many events it has, or the first refusal.
+    pub fn of(tape: &[u8], n: usize, codes: u8) -> Counted
+        ensures { λ r. ⌜ r ≡ countedAs (rule.tapeVerdict codes n (now (tape .entry))) (eventsOn (now (tape .entry))) ⌝ }
+    {
+        let verdict = verdict_of(tape, n, codes);
+        let Verdict::Fine = verdict else {
+            let Verdict::Refused(refusal) = verdict else {
+                return Counted::Done(0);
+            };
+            return Counted::Refused(refusal);
+        };
+        let last = tape.len() / 512 - 1;
+        let count = word_at(tape, 512 * last + 2) as usize;
+        Counted::Done(63 * last + count)
+    }
+}
