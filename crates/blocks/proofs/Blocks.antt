@@ -62,7 +62,7 @@ pub record ListFine (codes n : ℕ) (s : List ℕ) : Type 0 where
 
 module _ (codes n : ℕ) (s : List ℕ) where
   -- the test of event k
-  abbrev eventTest : ℕ → Verdict
+  abbrev pub eventTest : ℕ → Verdict
   eventTest k = unless (eventFits codes n s (8 * k)) (refusal.Event k)
 
   pub list-fine : listVerdict codes n s ≡ Fine → ListFine codes n s

@@ -13,13 +13,13 @@ use Rattle.machine.specs.declared.Verdict.{Verdict}
 use Rattle.machine.specs.declared.Verdict.the-variants as verdict
 use Rattle.machine.specs.Bytes.{zeros}
 use Rattle.machine.specs.Tape.{check, covered, slotAt, blockNumber, blockCount, blockCheck}
-use Rattle.machine.specs.Refusals.{orElse, first, eventFits, lengthVerdict, mostBlocks, blockFits, checkVerdict}
-use Rattle.machine.specs.Refusals.{numberVerdict, usedVerdict, unusedVerdict, blockVerdict, tapeVerdict}
+use Rattle.machine.specs.Refusals.{orElse, first, eventFits, lengthVerdict, mostBlocks, mostEvents, blockFits, checkVerdict}
+use Rattle.machine.specs.Refusals.{numberVerdict, usedVerdict, unusedVerdict, blockVerdict, tapeVerdict, listVerdict}
 use Rattle.machine.proofs.Refusals.{unless-fine, second-fine}
 use Rattle.blocks.specs.declared.Counted.the-variants.{Done, Refused}
 use Rattle.blocks.specs.Counted.{countedAs, headVerdict, eventsOn}
 use Rattle.blocks.proofs.First.{first-start}
-use Rattle.blocks.proofs.Blocks.{fits-most, slotTest, tape-fine}
+use Rattle.blocks.proofs.Blocks.{fits-most, eventTest, slotTest, tape-fine}
 use Rattle.blocks.proofs.Lengths.{length-list}
 
 -- ---- the length
@@ -120,20 +120,44 @@ module _ (codes n : ℕ) (s : List ℕ) (b : ℕ) where
   unfolding usedVerdict
   slots-start e = first-start (slotTest codes n s b) _ ∙ ap (first (slotTest codes n s b) 0) e
 
--- ---- a tape
+-- ---- a tape and a list: the length first, then a row of tests
+
+module _ (l : Verdict) (f : ℕ → Verdict) (k : ℕ) {v : Verdict} (is : v ≡ l) where
+  long-refused : {r : Refusal} → v ≡ verdict.Refused r → v ≡ orElse l (first f 0 k)
+  long-refused e = e ∙ rw (sym is ∙ e)
+
+  row-start : v ≡ verdict.Fine → first f 0 (k - 0) ≡ orElse l (first f 0 k)
+  row-start e = first-start f k ∙ rw (sym is ∙ e)
 
 module _ (codes n : ℕ) (s : List ℕ) {v : Verdict} (is : v ≡ lengthVerdict 512 1 mostBlocks s) where
-  pub length-refused : {r : Refusal} → v ≡ verdict.Refused r → v ≡ tapeVerdict codes n s
+  pub tape-length-refused : {r : Refusal} → v ≡ verdict.Refused r → v ≡ tapeVerdict codes n s
   unfolding tapeVerdict
-  length-refused e = e ∙ rw (sym is ∙ e)
+  tape-length-refused e = long-refused _ _ _ is e
 
   -- before the first block
-  pub blocks-start : v ≡ verdict.Fine
-      → first (blockVerdict codes n s) 0 (length s / 512 - 0) ≡ tapeVerdict codes n s
+  pub blocks-start : v ≡ verdict.Fine → first (blockVerdict codes n s) 0 (length s / 512 - 0) ≡ tapeVerdict codes n s
   unfolding tapeVerdict
-  blocks-start e = first-start (blockVerdict codes n s) (length s / 512) ∙ rw (sym is ∙ e)
+  blocks-start e = row-start _ (blockVerdict codes n s) (length s / 512) is e
 
--- how many events a tape has
+module _ (codes n : ℕ) (s : List ℕ) {v : Verdict} (is : v ≡ lengthVerdict 8 1 mostEvents s) where
+  pub list-length-refused : {r : Refusal} → v ≡ verdict.Refused r → v ≡ listVerdict codes n s
+  unfolding listVerdict
+  list-length-refused e = long-refused _ _ _ is e
+
+  -- before the first event
+  pub events-start : v ≡ verdict.Fine → first (eventTest codes n s) 0 (length s / 8 - 0) ≡ listVerdict codes n s
+  unfolding listVerdict
+  events-start e = row-start _ (eventTest codes n s) (length s / 8) is e
+
+-- event k of a list
+module _ (codes n : ℕ) (s : List ℕ) (k : ℕ) {fits : Bool} (is : fits ≡ eventFits codes n s (8 * k)) where
+  pub event-refused : fits ≡ false → eventTest codes n s k ≡ verdict.Refused (refusal.Event k)
+  event-refused e = rw (sym is ∙ e)
+
+  pub event-fine : fits ≡ true → eventTest codes n s k ≡ verdict.Fine
+  event-fine e = rw (sym is ∙ e)
+
+-- ---- how many events a tape has
 
 module _ (codes n : ℕ) (s : List ℕ) {v : Verdict} (is : v ≡ tapeVerdict codes n s) where
   pub counted-refused : {r : Refusal} → v ≡ verdict.Refused r

@@ -1,5 +1,5 @@
-// The tape's test: its length, then block by block the check, number and count, the events of its used slots, and its
-// unused slots. Document 01, "The tape", and the order under its table.
+// The tests of a tape and of a list. A tape: its length, then block by block the check, number and count, the events of
+// its used slots, and its unused slots. A list: its length, then its events. Document 01, the order under its table.
 use event::Event;
 use machine::Refusal;
 use machine::Verdict;
@@ -83,6 +83,22 @@ fn verdict_of(tape: &[u8], n: usize, codes: u8) -> Verdict
         if !is_clear(tape, slots + 8 * count, 8 * (63 - count)) {
             verdict = Verdict::Refused(Refusal::Unused(b));
             break 'blocks;
+        }
+    }
+    verdict
+}
+
+// Internal: a list's verdict, for n processes and so many codes: its length, then its events.
+pub fn list_verdict(list: &[u8], n: usize, codes: u8) -> Verdict
+    ensures { λ r. ⌜ r ≡ rule.listVerdict codes n (now (list .entry)) ⌝ }
+{
+    let verdict = length_verdict(list, 8, 1, 63 * MOST_BLOCKS);
+    let Verdict::Fine = verdict else {
+        return verdict;
+    };
+    for k in 0..list.len() / 8 {
+        if !Event::fits(list, 8 * k, n, codes) {
+            return Verdict::Refused(Refusal::Event(k));
         }
     }
     verdict

@@ -1,2 +1,3 @@
--- Laws that the functions of this crate cite.
+-- Laws of stretches of bytes.
 pub mod Laws
+pub mod Splices

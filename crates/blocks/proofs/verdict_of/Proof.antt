@@ -14,7 +14,7 @@ use Rattle.blocks.proofs.First.{first-on, first-found, first-end}
 use Rattle.blocks.proofs.Blocks.{slotTest}
 use Rattle.blocks.proofs.Apart.{refused-is, done-fine, done-events}
 use Rattle.blocks.proofs.Ways.{head-refused, head-count, used-refused, unused-refused, slots-fine, slot-refused, slot-fine}
-use Rattle.blocks.proofs.Ways.{slots-start, length-refused, blocks-start}
+use Rattle.blocks.proofs.Ways.{slots-start, tape-length-refused, blocks-start}
 use Rattle.blocks.proofs.verdict_of.Statement.{statement}
 use Rattle.blocks.proofs.verdict_of.Tie as tie
 
@@ -61,7 +61,7 @@ enum-told-2 c = omega arith
 returns : tie.Need-returns Inv-loop μ-loop Inv-blocks2 μ-blocks2
 returns c =
     let a = c .before .before .before .before .args in
-    length-refused (a .codes) (a .n) (a .tape .now) (c .before .before .length-verdict .ensures) (c .enum-told2 .given .1)
+    tape-length-refused (a .codes) (a .n) (a .tape .now) (c .before .before .length-verdict .ensures) (c .enum-told2 .given .1)
 
 blocks2-holds : tie.Need-blocks2-holds Inv-loop μ-loop Inv-blocks2 μ-blocks2
 blocks2-holds c =

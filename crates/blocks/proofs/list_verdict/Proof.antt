@@ -1,0 +1,99 @@
+-- What is left to test decides for all, since what came before is fine. Assumes nothing.
+use Prim.Native.Nat.{_-_, _≤_}
+use mathlib.Core.Path.{_≡_, sym, _∙_}
+use native.Mathlib.Omega.{arith}
+use borrow.Author.Tests.{not-true, not-false}
+use Rattle.machine.specs.Refusals.{first, listVerdict}
+use Rattle.blocks.proofs.First.{first-on, first-found, first-end}
+use Rattle.blocks.proofs.Blocks.{eventTest}
+use Rattle.blocks.proofs.Ways.{list-length-refused, events-start, event-refused, event-fine}
+use Rattle.blocks.proofs.list_verdict.Statement.{statement}
+use Rattle.blocks.proofs.list_verdict.Tie as tie
+
+abbrev Inv-loop : tie.InvT-loop
+Inv-loop list n codes verdict k₀ k-end k =
+    (k ≤ k-end) × (first (eventTest codes n list) k (k-end - k) ≡ listVerdict codes n list)
+
+abbrev μ-loop : tie.MeasureT-loop
+μ-loop list n codes verdict k₀ k-end k = k-end - k
+
+mul-length-verdict : tie.Need-mul-length-verdict Inv-loop μ-loop
+mul-length-verdict c = omega arith
+
+length-verdict-requires : tie.Need-length-verdict-requires Inv-loop μ-loop
+length-verdict-requires c κs = omega arith
+
+enum-told : tie.Need-enum-told Inv-loop μ-loop
+enum-told c = omega arith
+
+enum-told-2 : tie.Need-enum-told-2 Inv-loop μ-loop
+enum-told-2 c = omega arith
+
+returns : tie.Need-returns Inv-loop μ-loop
+returns c =
+    let a = c .before .before .before .before .args in
+    list-length-refused (a .codes) (a .n) (a .list .now) (c .before .before .length-verdict .ensures)
+    (c .enum-told2 .given .1)
+
+loop-holds : tie.Need-loop-holds Inv-loop μ-loop
+loop-holds c =
+    let a = c .before .before .before .before .args in (
+      omega arith,
+      events-start (a .codes) (a .n) (a .list .now) (c .before .before .length-verdict .ensures)
+          (c .enum-told .given .1),
+    )
+
+mul-fits : tie.Need-mul-fits Inv-loop μ-loop
+mul-fits c = omega arith
+
+fits-requires : tie.Need-fits-requires Inv-loop μ-loop
+fits-requires c κs = omega arith
+
+returns-2 : tie.Need-returns-2 Inv-loop μ-loop
+returns-2 c =
+    let l = c .before .before .before .loop in
+    let a = c .before .before .before .before .before .before .before .before .args in
+    let s = a .list .now in
+    let event = event-refused (a .codes) (a .n) s (l .k) (c .before .fits2 .ensures) (not-true _ (c .if1 .taken)) in
+    sym (first-found (eventTest (a .codes) (a .n) s) (l .k) _ (omega arith) event) ∙ l .inv .1
+
+add-k : tie.Need-add-k Inv-loop μ-loop
+add-k c = omega arith
+
+loop-less : tie.Need-loop-less Inv-loop μ-loop
+loop-less c = omega arith
+
+loop-again : tie.Need-loop-again Inv-loop μ-loop
+loop-again c =
+    let l = c .before .before .before .loop in
+    let a = c .before .before .before .before .before .before .before .before .args in
+    let s = a .list .now in
+    let event = event-fine (a .codes) (a .n) s (l .k) (c .before .fits2 .ensures) (not-false _ (c .if1 .left)) in
+    (omega arith, sym (first-on (eventTest (a .codes) (a .n) s) (l .k) _ (omega arith) event) ∙ l .inv .1)
+
+returns-3 : tie.Need-returns-3 Inv-loop μ-loop
+returns-3 c =
+    let l = c .before .loop in
+    let a = c .before .before .before .before .before .before .args in
+    let row = eventTest (a .codes) (a .n) (a .list .now) in
+    c .before .before .enum-told .given .1 ∙ sym (first-end row (l .k) _ (omega arith)) ∙ l .inv .1
+
+pub list-verdict-spec : {M : Type 1} → statement M
+list-verdict-spec =
+    tie.close
+    (tie.spec
+    Inv-loop
+    μ-loop
+    mul-length-verdict
+    length-verdict-requires
+    enum-told
+    enum-told-2
+    returns
+    loop-holds
+    mul-fits
+    fits-requires
+    returns-2
+    add-k
+    loop-less
+    loop-again
+    returns-3)

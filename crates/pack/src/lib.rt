@@ -1,0 +1,67 @@
+// Events packed into blocks of 63 slots, and taken out again. Document 01, "The tape".
+use record::byte::put_four;
+use record::byte::put_number;
+use seal::check_of;
+use span::clear;
+use span::copy;
+ghost use mathlib.Core.Path.{_≡_};
+ghost use Prim.Native.Nat.{_+_, _*_, _≤_, _<_};
+ghost use lib.ListN.{length};
+ghost use Rattle.machine.specs.Bytes.{splice};
+ghost use Rattle.machine.specs.Lists.{join, tabulate};
+ghost use Rattle.machine.specs.Tape.{blockFor};
+ghost use Rattle.pack.specs.Pack.{widthIn, takenFrom};
+
+// How many of so many bytes of events stand in block b: 504, or what is left.
+fn width_in(total: usize, b: usize) -> usize
+    requires { ⌜ 504 * b ≤ total ⌝ }
+    ensures { λ r. ⌜ (r ≡ widthIn total b) × (r ≤ 504) × (504 * b + r ≤ total) ⌝ }
+{
+    let left = total - 504 * b;
+    if left < 504 { left } else { 504 }
+}
+
+// Block b of a list's tape, written: number and count, the events, zeros, and the check of all these.
+fn pack_block(list: &[u8], b: usize, tape: &mut [u8])
+    requires { ⌜ (b < 65536) × (504 * b ≤ length (now list)) × (512 * b + 512 ≤ length (now tape)) ⌝ }
+    ensures { λ _. ⌜ now (tape .exit) ≡ splice (now (tape .entry)) (512 * b) (blockFor (now (list .entry)) b) ⌝ }
+{
+    let start = 512 * b;
+    let used = width_in(list.len(), b);
+    let unused = 504 - used;
+    put_four(
+        tape,
+        start,
+        (b % 256) as u8,
+        (b / 256) as u8,
+        (used / 8) as u8,
+        0,
+    );
+    copy(list, 504 * b, tape, start + 8, used);
+    clear(tape, start + 8 + used, unused);
+    let check = check_of(tape, b);
+    put_number(tape, start + 4, check);
+}
+
+// Internal: the first so many blocks of a list's tape, written.
+pub fn pack(list: &[u8], blocks: usize, tape: &mut [u8])
+    requires { ⌜ (blocks ≤ 65536) × (504 * blocks ≤ length (now list) + 504) × (512 * blocks ≤ length (now tape)) ⌝ }
+    ensures { λ _. ⌜ now (tape .exit)
+        ≡ splice (now (tape .entry)) 0 (join (tabulate (blockFor (now (list .entry))) 0 blocks)) ⌝ }
+{
+    for b in 0..blocks {
+        pack_block(list, b, tape);
+    }
+}
+
+// Internal: so many bytes of events, taken from so many blocks.
+pub fn unpack(tape: &[u8], blocks: usize, list: &mut [u8], total: usize)
+    requires { ⌜ (512 * blocks ≤ length (now tape)) × (504 * blocks ≤ total + 504) × (total ≤ length (now list)) ⌝ }
+    ensures { λ _. ⌜ now (list .exit)
+        ≡ splice (now (list .entry)) 0 (join (tabulate (takenFrom (now (tape .entry)) total) 0 blocks)) ⌝ }
+{
+    for b in 0..blocks {
+        let used = width_in(total, b);
+        copy(tape, 512 * b + 8, list, 504 * b, used);
+    }
+}
