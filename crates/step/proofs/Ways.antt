@@ -2,19 +2,16 @@
 -- functions are variables here, each with the rule's value that it is known to be. Assumes nothing.
 use Prim.Native.Nat.{ℕ, _<_}
 use mathlib.Core.Path.{_≡_, sym, ap, _∙_}
-use mathlib.Core.Bool.{Bool, true, false, not, _||_}
+use mathlib.Core.Bool.{Bool, true}
 use mathlib.Core.List.{List, []}
 use native.Mathlib.Omega.{arith}
-use borrow.Author.Tests.{not-true, not-false}
-use Rattle.machine.specs.declared.Pair.{Pair}
 use Rattle.machine.specs.declared.Envelope.{Envelope}
 use Rattle.machine.specs.declared.Process.{Process}
 use Rattle.machine.specs.declared.Outcome.{Outcome}
 use Rattle.machine.specs.declared.Reaction.{Reaction}
 use Rattle.machine.specs.declared.Refusal.{Refusal}
 use Rattle.machine.specs.declared.Verdict.the-variants as verdict
-use Rattle.machine.specs.Ring.{left, right}
-use Rattle.machine.specs.Image.{envelopeIn, processIn, sizeIn, stateIn, imageWith, withProcess, withEnvelope}
+use Rattle.machine.specs.Image.{envelopeIn, processIn, sizeIn, stateIn, imageWith}
 use Rattle.machine.specs.Events as rule
 use Rattle.machine.specs.Stopped.{isIdle}
 use Rattle.machine.specs.Tape.{eventIn}
@@ -37,40 +34,8 @@ use Rattle.event.specs.declared.Parsed.{Parsed}
 use Rattle.event.specs.declared.Parsed.the-variants as parsed
 use Rattle.event.specs.Parsed.{ruled, parsedAs}
 use Rattle.event.proofs.Apart as event-test
-use Rattle.step.specs.Placed.{requestedIn, arrivedIn, placedIn}
+use Rattle.place.specs.Placed.{placedIn}
 use Rattle.step.proofs.Written.{placed-written}
-
--- ---- a neighbour
-
-module _ (s : List ℕ) (k : ℕ) where
-  pub request-none : (asks : Pair) → not (asks .full || asks .empty) ≡ true → s ≡ requestedIn s k asks
-  unfolding requestedIn
-  request-none asks h = rw (not-true (asks .full || asks .empty) h)
-
-  pub request-some : (asks : Pair) {p q : Process} {t : List ℕ} → not (asks .full || asks .empty) ≡ false
-      → p ≡ processIn s k → q ≡ rule.requested asks p → t ≡ withProcess s k q
-      → t ≡ requestedIn s k asks
-  unfolding requestedIn
-  request-some asks h read new wrote = wrote ∙ rw (not-false (asks .full || asks .empty) h, new, read)
-
-  pub arrive-none : (leaves : Bool) → not leaves ≡ true → s ≡ arrivedIn s k leaves
-  unfolding arrivedIn
-  arrive-none leaves h = rw (not-true leaves h)
-
-  pub arrive-some : (leaves : Bool) {p q : Process} {t : List ℕ} → not leaves ≡ false
-      → p ≡ processIn s k → q ≡ rule.arrived true p → t ≡ withProcess s k q
-      → t ≡ arrivedIn s k leaves
-  unfolding arrivedIn
-  arrive-some leaves h read new wrote = wrote ∙ rw (not-false leaves h, new, read)
-
--- the four writes, one after the other
-pub place-done : (s : List ℕ) (n i : ℕ) (r : Reaction) {at-left at-right : ℕ} {one two three four : List ℕ}
-    → one ≡ withProcess s i (r .process) → two ≡ withEnvelope one (r .envelope)
-    → at-left ≡ left n i → three ≡ requestedIn two at-left (r .asks)
-    → at-right ≡ right n i → four ≡ arrivedIn three at-right (r .leaves)
-    → four ≡ placedIn s n i r
-unfolding placedIn
-place-done s n i r first second l third k fourth = fourth ∙ rw (third, second, first, l, k)
 
 -- ---- the checked step
 

@@ -27,7 +27,7 @@ use Rattle.machine.proofs.Ring.{left-below, right-below, left-other, right-othe
 use Rattle.machine.proofs.Stored.{length-state, store-process}
 use Rattle.machine.proofs.Idle.{no-arrival, unchanged}
 use Rattle.machine.proofs.Placed.{length-change}
-use Rattle.step.specs.Placed.{requestedIn, arrivedIn, placedIn}
+use Rattle.place.specs.Placed.{requestedIn, arrivedIn, placedIn}
 
 -- ---- one neighbour
 

@@ -2,22 +2,16 @@
 // touches the header and at most two records. Document 01, "The eight events".
 use event::Event;
 use event::Parsed;
-use event::arrived;
-use event::requested;
 use image::Ring;
 use machine::Outcome;
-use machine::Pair;
-use machine::Reaction;
 use machine::Refusal;
+use place::place;
 use record::byte::wide;
 use record::header::envelope_at;
-use record::header::put_envelope;
 use record::process::process_at;
-use record::process::put_process;
 use sound::Checked;
 ghost use mathlib.Core.Path.{_≡_};
-ghost use Prim.Native.Nat.{_+_, _*_, _≤_, _<_};
-ghost use lib.ListN.{length};
+ghost use Prim.Native.Nat.{_<_};
 ghost use Rattle.machine.specs.Image.{sizeIn, stateIn, imageWith};
 ghost use Rattle.machine.specs.Events as rule;
 ghost use Rattle.machine.specs.Stopped.{isIdle};
@@ -25,37 +19,12 @@ ghost use Rattle.machine.specs.Refusals.{imageVerdict};
 ghost use Rattle.machine.specs.Answers.{stepAnswer, stepImage};
 ghost use Rattle.machine.specs.declared.Verdict.the-variants as verdict;
 ghost use Rattle.event.specs.Parsed.{ruled};
-ghost use Rattle.step.specs.Placed.{requestedIn, arrivedIn, placedIn};
 ghost use Rattle.step.specs.Step.{told};
 
 // What the step call answers.
 pub enum StepAnswer {
     Done(Outcome),
     Refused(Refusal),
-}
-
-// Requests go on the link at process k; with none the image isn't touched.
-fn request(image: &mut [u8], k: usize, asks: Pair)
-    requires { ⌜ (k < 64) × (24 + 8 * k ≤ length (now image)) ⌝ }
-    ensures { λ _. ⌜ now (image .exit) ≡ requestedIn (now (image .entry)) k asks ⌝ }
-{
-    if !(asks.full | asks.empty) {
-        return;
-    }
-    let p = process_at(image, k);
-    put_process(image, k, requested(asks, p));
-}
-
-// The envelope arrives at process k; where it doesn't leave the image isn't touched.
-fn arrive(image: &mut [u8], k: usize, leaves: bool)
-    requires { ⌜ (k < 64) × (24 + 8 * k ≤ length (now image)) ⌝ }
-    ensures { λ _. ⌜ now (image .exit) ≡ arrivedIn (now (image .entry)) k leaves ⌝ }
-{
-    if !leaves {
-        return;
-    }
-    let p = process_at(image, k);
-    put_process(image, k, arrived(p));
 }
 
 // Whether an event came to nothing.
@@ -70,23 +39,6 @@ fn is_idle(outcome: Outcome) -> bool
         Outcome::Sent => false,
         Outcome::Got => false,
     }
-}
-
-// What an event does at process i, written: its own record and the header, then the left's, then the right's, each as
-// the one before left it.
-fn place(image: &mut [u8], ring: Ring, i: usize, r: Reaction)
-    requires { ⌜ (i < ring .size) × (ring .size ≤ 64) × (16 + 8 * ring .size ≤ length (now image)) ⌝ }
-    ensures { λ _. ⌜ now (image .exit) ≡ placedIn (now (image .entry)) (ring .size) i r ⌝ }
-{
-    let own = r.process;
-    let envelope = r.envelope;
-    let asks = r.asks;
-    let to_left = ring.left(i);
-    let to_right = ring.right(i);
-    put_process(image, i, own);
-    put_envelope(image, envelope);
-    request(image, to_left, asks);
-    arrive(image, to_right, r.leaves);
 }
 
 // Internal: the checked step. The image is known to be sound, and the event to be at a process of it.

@@ -2,9 +2,9 @@
 -- nothing.
 use native.Mathlib.Omega.{arith}
 use Rattle.machine.proofs.Ring.{left-below, right-below}
-use Rattle.step.proofs.Ways.{place-done}
-use Rattle.step.proofs.place.Statement.{statement}
-use Rattle.step.proofs.place.Tie as tie
+use Rattle.place.proofs.Ways.{place-done}
+use Rattle.place.proofs.place.Statement.{statement}
+use Rattle.place.proofs.place.Tie as tie
 
 left-requires : tie.Need-left-requires
 left-requires c κs = omega arith

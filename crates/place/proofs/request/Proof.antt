@@ -1,8 +1,8 @@
 -- With no request nothing is touched; else the record at k is read, changed and written. Assumes nothing.
 use native.Mathlib.Omega.{arith}
-use Rattle.step.proofs.Ways.{request-none, request-some}
-use Rattle.step.proofs.request.Statement.{statement}
-use Rattle.step.proofs.request.Tie as tie
+use Rattle.place.proofs.Ways.{request-none, request-some}
+use Rattle.place.proofs.request.Statement.{statement}
+use Rattle.place.proofs.request.Tie as tie
 
 returns : tie.Need-returns
 returns c =

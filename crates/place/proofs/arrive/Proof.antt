@@ -1,8 +1,8 @@
 -- Where the envelope stays nothing is touched; else the record at k is read, changed and written. Assumes nothing.
 use native.Mathlib.Omega.{arith}
-use Rattle.step.proofs.Ways.{arrive-none, arrive-some}
-use Rattle.step.proofs.arrive.Statement.{statement}
-use Rattle.step.proofs.arrive.Tie as tie
+use Rattle.place.proofs.Ways.{arrive-none, arrive-some}
+use Rattle.place.proofs.arrive.Statement.{statement}
+use Rattle.place.proofs.arrive.Tie as tie
 
 returns : tie.Need-returns
 returns c =
