@@ -1,0 +1,4 @@
+-- Laws that the functions of this crate cite.
+pub mod Ways
+pub mod Writer
+pub mod Reader

@@ -1,0 +1,96 @@
+-- Each refusal is the rule's first; past them the unpacked events are the tape's list. Assumes nothing.
+use mathlib.Core.Path.{_∙_}
+use native.Mathlib.Omega.{arith}
+use borrow.Author.Tests.{not-true, not-false}
+use borrow.Author.Needs.{needs}
+use Rattle.tape.proofs.Reader.{read-size, read-tape, read-blocks, read-short, read-done}
+use borrow.Author.Needs.{needs}
+use Rattle.tape.proofs.read.Statement.{statement}
+use Rattle.tape.proofs.read.Tie as tie
+
+size-fits-requires : tie.Need-size-fits-requires
+size-fits-requires c κs = omega arith
+
+returns : tie.Need-returns
+returns c =
+    let a = c .before .before .before .before .args in
+    read-size (a .n) (a .tape .now) (a .output .now) (c .before .size-fits .ensures) (not-true _ (c .if1 .taken))
+
+of-requires : tie.Need-of-requires
+of-requires c κs = omega arith
+
+enum-known-counted : tie.Need-enum-known-counted
+enum-known-counted c = omega arith
+
+enum-known-counted-2 : tie.Need-enum-known-counted-2
+enum-known-counted-2 c = omega arith
+
+enum-known-counted-3 : tie.Need-enum-known-counted-3
+enum-known-counted-3 c = omega arith
+
+enum-told : tie.Need-enum-told
+enum-told c = omega arith
+
+returns-2 : tie.Need-returns-2
+returns-2 c = search needs
+
+returns-3 : tie.Need-returns-3
+returns-3 c =
+    let t = c .before .before .before .before .before .before in
+    let a = t .before .before .before .before .before .args in
+    read-tape (a .n) (a .tape .now) (a .output .now) (t .before .before .size-fits .ensures) (not-false _ (t .before .if1 .left))
+    (t .of .ensures) (c .before .before .before .before .counted2 .given .1 ∙ c .before .counted3 .given .1)
+
+mul-total : tie.Need-mul-total
+mul-total c =
+    let t = c .before .before .before in
+    let a = t .before .before .before .before .before .args in
+    let facts =
+    read-blocks (a .n) (a .tape .now) (a .output .now) (t .before .before .size-fits .ensures)
+    (not-false _ (t .before .if1 .left)) (t .of .ensures) (c .before .counted .given .1) in
+    omega arith
+
+returns-4 : tie.Need-returns-4
+returns-4 c =
+    let t = c .before .before .before .before in
+    let a = t .before .before .before .before .before .args in
+    read-short (a .n) (a .tape .now) (a .output .now) (t .before .before .size-fits .ensures) (not-false _ (t .before .if1 .left))
+    (t .of .ensures) (c .before .before .counted .given .1) (c .if2 .taken)
+
+unpack-requires : tie.Need-unpack-requires
+unpack-requires c κs =
+    let t = c .before .before .before .before .before in
+    let a = t .before .before .before .before .before .args in
+    let facts =
+    read-blocks (a .n) (a .tape .now) (a .output .now) (t .before .before .size-fits .ensures)
+    (not-false _ (t .before .if1 .left)) (t .of .ensures) (c .before .before .before .counted .given .1) in
+    omega arith
+
+same-length : tie.Need-same-length
+same-length c = omega arith
+
+returns-5 : tie.Need-returns-5
+returns-5 c =
+    let t = c .before .before .before .before .before .before .before .before in
+    let a = t .before .before .before .before .before .args in
+    read-done (a .n) (a .tape .now) (a .output .now) (t .before .before .size-fits .ensures) (not-false _ (t .before .if1 .left))
+    (t .of .ensures) (c .before .before .before .before .before .before .counted .given .1) (c .before .before .before .before .if2 .left) (c .before .before .unpack .ensures)
+
+pub read-spec : {M : Type 1} → statement M
+read-spec =
+    tie.close
+    (tie.spec
+    size-fits-requires
+    returns
+    of-requires
+    enum-known-counted
+    enum-known-counted-2
+    enum-known-counted-3
+    enum-told
+    returns-2
+    returns-3
+    mul-total
+    returns-4
+    unpack-requires
+    same-length
+    returns-5)

@@ -1,0 +1,93 @@
+-- Each refusal is the rule's first; past them the packed blocks are the list's tape. Assumes nothing.
+use mathlib.Core.Path.{_∙_}
+use native.Mathlib.Omega.{arith}
+use borrow.Author.Tests.{not-true, not-false}
+use borrow.Author.Needs.{needs}
+use Rattle.tape.proofs.Writer.{write-size, write-list, write-events, write-short, write-done}
+use borrow.Author.Needs.{needs}
+use Rattle.tape.proofs.write.Statement.{statement}
+use Rattle.tape.proofs.write.Tie as tie
+
+size-fits-requires : tie.Need-size-fits-requires
+size-fits-requires c κs = omega arith
+
+returns : tie.Need-returns
+returns c =
+    let a = c .before .before .before .before .args in
+    write-size (a .n) (a .list .now) (a .output .now) (c .before .size-fits .ensures) (not-true _ (c .if1 .taken))
+
+list-verdict-requires : tie.Need-list-verdict-requires
+list-verdict-requires c κs = omega arith
+
+enum-told : tie.Need-enum-told
+enum-told c = omega arith
+
+enum-known-verdict : tie.Need-enum-known-verdict
+enum-known-verdict c = omega arith
+
+enum-known-verdict-2 : tie.Need-enum-known-verdict-2
+enum-known-verdict-2 c = omega arith
+
+enum-told-2 : tie.Need-enum-told-2
+enum-told-2 c = omega arith
+
+returns-2 : tie.Need-returns-2
+returns-2 c = search needs
+
+returns-3 : tie.Need-returns-3
+returns-3 c =
+    let t = c .before .before .before .before .before .before in
+    let a = t .before .before .before .before .before .args in
+    write-list (a .n) (a .list .now) (a .output .now) (t .before .before .size-fits .ensures) (not-false _ (t .before .if1 .left))
+    (t .list-verdict .ensures) (c .before .before .before .before .verdict .given .1 ∙ c .before .verdict2 .given .1)
+
+blocks-for-requires : tie.Need-blocks-for-requires
+blocks-for-requires c κs =
+    let t = c .before .before in
+    let a = t .before .before .before .before .before .args in
+    write-events (a .n) (a .list .now) (a .output .now) (t .before .before .size-fits .ensures) (not-false _ (t .before .if1 .left))
+    (t .list-verdict .ensures) (c .enum-told .given .1)
+
+mul-total : tie.Need-mul-total
+mul-total c = omega arith
+
+returns-4 : tie.Need-returns-4
+returns-4 c =
+    let t = c .before .before .before .before in
+    let a = t .before .before .before .before .before .args in
+    write-short (a .n) (a .list .now) (a .output .now) (t .before .before .size-fits .ensures) (not-false _ (t .before .if1 .left))
+    (t .list-verdict .ensures) (c .before .before .enum-told .given .1) (c .before .blocks-for .ensures .0) (c .if2 .taken)
+
+pack-requires : tie.Need-pack-requires
+pack-requires c κs = omega arith
+
+same-length : tie.Need-same-length
+same-length c = omega arith
+
+returns-5 : tie.Need-returns-5
+returns-5 c =
+    let t = c .before .before .before .before .before .before .before .before in
+    let a = t .before .before .before .before .before .args in
+    write-done (a .n) (a .list .now) (a .output .now) (t .before .before .size-fits .ensures) (not-false _ (t .before .if1 .left))
+    (t .list-verdict .ensures) (c .before .before .before .before .before .before .enum-told .given .1) (c .before .before .before .before .before .blocks-for .ensures .0) (c .before .before .before .before .if2 .left)
+    (c .before .before .pack .ensures)
+
+pub write-spec : {M : Type 1} → statement M
+write-spec =
+    tie.close
+    (tie.spec
+    size-fits-requires
+    returns
+    list-verdict-requires
+    enum-told
+    enum-known-verdict
+    enum-known-verdict-2
+    enum-told-2
+    returns-2
+    returns-3
+    blocks-for-requires
+    mul-total
+    returns-4
+    pack-requires
+    same-length
+    returns-5)

@@ -1,0 +1,11 @@
+-- The writer's and the reader's answer in document 01's own numbers. Assumes nothing.
+use mathlib.Core.List.{[], _∷_}
+use Rattle.machine.specs.declared.Verdict.the-variants as verdict
+use Rattle.machine.specs.Answers.{Answer, answer}
+use Rattle.tape.specs.declared.Filled.{Filled}
+use Rattle.tape.specs.declared.Filled.the-variants.{Done, Refused}
+
+-- 0 and how many bytes were filled, or the refusal's number and place
+abbrev pub told : Filled → Answer
+told (Done filled) = answer verdict.Fine (filled ∷ [])
+told (Refused r) = answer (verdict.Refused r) []
