@@ -22,32 +22,32 @@ use Rattle.blocks.proofs.First.{first-fine-at, first-all-fine}
 
 -- ---- the length
 
--- whole units, at least one and at most `most`
-record LengthFine (unit most : ℕ) (s : List ℕ) : Type 0 where
-  whole : length s % unit ≡ 0
-  some : 1 ≤ length s / unit
-  few : length s / unit ≤ most
+-- whole units, at least `least` and at most `most` of them
+pub record LengthFine (unit least most : ℕ) (s : List ℕ) : Type 0 where
+  pub whole : length s % unit ≡ 0
+  pub some : least ≤ length s / unit
+  pub few : length s / unit ≤ most
 
-module _ (unit most : ℕ) (s : List ℕ) where
-  length-fine : lengthVerdict unit 1 most s ≡ Fine → LengthFine unit most s
+module _ (unit least most : ℕ) (s : List ℕ) where
+  pub length-fine : lengthVerdict unit least most s ≡ Fine → LengthFine unit least most s
   unfolding lengthVerdict
   length-fine e =
       let whole = eqb (length s % unit) 0 in
-      let some = leb 1 (length s / unit) in
+      let some = leb least (length s / unit) in
       let few = leb (length s / unit) most in
       let fits = unless-fine (whole && some && few) refusal.Length e in
       let both = and-first (whole && some) few fits in
       record {
         whole = eqb-true (length s % unit) 0 (and-first whole some both);
-        some = leb-true 1 (length s / unit) (and-second whole some both);
+        some = leb-true least (length s / unit) (and-second whole some both);
         few = leb-true (length s / unit) most (and-second (whole && some) few fits);
       }
 
-  fine-length : LengthFine unit most s → lengthVerdict unit 1 most s ≡ Fine
+  pub fine-length : LengthFine unit least most s → lengthVerdict unit least most s ≡ Fine
   unfolding lengthVerdict
   fine-length h = rw (
     eq-eqb (length s % unit) 0 (h .whole),
-    le-leb 1 (length s / unit) (h .some),
+    le-leb least (length s / unit) (h .some),
     le-leb (length s / unit) most (h .few),
   )
 
@@ -70,7 +70,7 @@ module _ (codes n : ℕ) (s : List ℕ) where
   list-fine e =
       let long = lengthVerdict 8 1 mostEvents s in
       let row = first eventTest 0 (length s / 8) in
-      let size = length-fine 8 mostEvents s (first-fine long row e) in
+      let size = length-fine 8 1 mostEvents s (first-fine long row e) in
       let all = first-fine-at eventTest 0 (length s / 8) (second-fine long row e) in
       record {
         whole = omega arith;
@@ -83,8 +83,8 @@ module _ (codes n : ℕ) (s : List ℕ) where
   pub fine-list : ListFine codes n s → listVerdict codes n s ≡ Fine
   unfolding listVerdict
   fine-list h =
-      let size : LengthFine 8 mostEvents s = record { whole = omega arith; some = h .some; few = h .most } in
-      rw (fine-length 8 mostEvents s size)
+      let size : LengthFine 8 1 mostEvents s = record { whole = omega arith; some = h .some; few = h .most } in
+      rw (fine-length 8 1 mostEvents s size)
       (first-all-fine eventTest 0 (length s / 8) (λ k low high. rw (h .events k (omega arith))))
 
 -- ---- a block
@@ -159,7 +159,7 @@ module _ (codes n : ℕ) (s : List ℕ) (b : ℕ) where
         unused = unless-fine _ (refusal.Unused b) (second-fine d f from-d);
       }
 
-  fine-block : b < length s / 512 → BlockFine codes n s b → blockVerdict codes n s b ≡ Fine
+  pub fine-block : b < length s / 512 → BlockFine codes n s b → blockVerdict codes n s b ≡ Fine
   unfolding blockVerdict checkVerdict numberVerdict blockFits usedVerdict unusedVerdict
   fine-block below h = rw (
     eq-eqb (check (covered s b)) (blockCheck s b) (h .checked),
@@ -186,7 +186,7 @@ module _ (codes n : ℕ) (s : List ℕ) where
   tape-fine e =
       let long = lengthVerdict 512 1 mostBlocks s in
       let row = first (blockVerdict codes n s) 0 (length s / 512) in
-      let size = length-fine 512 mostBlocks s (first-fine long row e) in
+      let size = length-fine 512 1 mostBlocks s (first-fine long row e) in
       let all = first-fine-at (blockVerdict codes n s) 0 (length s / 512) (second-fine long row e) in
       record {
         whole = omega arith;
@@ -198,7 +198,7 @@ module _ (codes n : ℕ) (s : List ℕ) where
   pub fine-tape : TapeFine codes n s → tapeVerdict codes n s ≡ Fine
   unfolding tapeVerdict
   fine-tape h =
-      let size : LengthFine 512 mostBlocks s = record { whole = omega arith; some = h .some; few = h .most } in
-      rw (fine-length 512 mostBlocks s size)
+      let size : LengthFine 512 1 mostBlocks s = record { whole = omega arith; some = h .some; few = h .most } in
+      rw (fine-length 512 1 mostBlocks s size)
       (first-all-fine (blockVerdict codes n s) 0 (length s / 512)
       (λ b low high. fine-block codes n s b (omega arith) (h .blocks b (omega arith))))

@@ -1,7 +1,7 @@
 -- The first refusal of a row of tests: the row is fine exactly when each test is, and a loop that counts up may leave
 -- out those that were. Assumes nothing.
 use Prim.Native.Nat.{ℕ, zero, suc, _+_, _-_, _≤_, _<_}
-use mathlib.Core.Path.{_≡_, refl, ap, _∙_}
+use mathlib.Core.Path.{_≡_, refl, ap, ap₂, _∙_}
 use mathlib.Core.Bool.{Bool, true, false}
 use native.Mathlib.Omega.{arith}
 use lib.Dec.{eqb}
@@ -9,7 +9,7 @@ use borrow.Author.Tests.{eqb-true, eqb-false}
 use Rattle.machine.specs.declared.Refusal.{Refusal}
 use Rattle.machine.specs.declared.Verdict.{Verdict}
 use Rattle.machine.specs.declared.Verdict.the-variants.{Fine, Refused}
-use Rattle.machine.specs.Refusals.{first}
+use Rattle.machine.specs.Refusals.{orElse, first}
 use Rattle.machine.proofs.Refusals.{first-fine, second-fine}
 
 -- a row is fine where each test is
@@ -30,6 +30,14 @@ first-fine-at f i (suc n) e k low high =
     go : (t : Bool) → eqb k i ≡ t → (i + 1 ≤ k → k < i + 1 + n → f k ≡ Fine) → f k ≡ Fine
     go true q later = ap f (eqb-true k i q) ∙ first-fine (f i) (first f (i + 1) n) e
     go false q later = let ne = eqb-false k i q in later (omega arith) (omega arith)
+
+-- rows of the same tests
+pub first-same : (f g : ℕ → Verdict) (i n : ℕ) → ((k : ℕ) → i ≤ k → k < i + n → f k ≡ g k) → first f i n ≡ first g i n
+unfolding first
+first-same f g i zero same = refl
+first-same f g i (suc n) same =
+    ap₂ orElse (same i (omega arith) (omega arith))
+    (first-same f g (i + 1) n (λ k low high. same k (omega arith) (omega arith)))
 
 -- the tests before k are fine, and k is refused
 pub first-refused : (f : ℕ → Verdict) (i n k : ℕ) (r : Refusal) → ((j : ℕ) → i ≤ j → j < k → f j ≡ Fine)

@@ -43,7 +43,7 @@ stateFits st = envelopeFits (st .envelope) && all processFits (st .processes) &&
 zero-message : (m : ℕ) → m < 2 ^ 32 → allZero (bytes 4 m) ≡ eqb m 0
 zero-message m h = all-zero (bytes 4 m) ∙ ap (λ (n : ℕ). eqb n 0) (littleEndian-bytes-4 m h)
 
-no-byte-set : (width : ℕ) → allZero (replicate width 0) ≡ true
+pub no-byte-set : (width : ℕ) → allZero (replicate width 0) ≡ true
 unfolding allZero
 no-byte-set zero = refl
 no-byte-set (suc width) = no-byte-set width

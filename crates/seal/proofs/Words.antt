@@ -1,12 +1,11 @@
 -- The words that a block's check covers, as code reads them: two at the block's start, 252 from its slots on. Assumes
 -- nothing.
-use Prim.Native.Nat.{ℕ, zero, suc, _+_, _-_, _*_, _/_, _≤_, _<_}
+use Prim.Native.Nat.{ℕ, zero, suc, _+_, _*_, _/_, _≤_, _<_}
 use mathlib.Core.Path.{_≡_, refl, ap, _∙_}
 use mathlib.Core.List.{List, [], _∷_, _++_}
 use native.Mathlib.Omega.{arith}
 use lib.ListN.{length, getD, take, drop, length-append, length-take, length-drop, List·getD-append}
-use lib.Seq.{getD-append-add, getD-take, getD-drop, length-take-le}
-use Prim.{absurd}
+use lib.Seq.{getD-append-add, getD-take, getD-drop}
 use Rattle.machine.specs.Bytes.{number}
 use Rattle.machine.specs.Tape.{words, covered}
 use Rattle.machine.proofs.Bytes.{number-2}
@@ -33,7 +32,7 @@ length-words (x ∷ y ∷ s) = omega (arith, length-words s)
 -- ---- those of a block
 
 module _ (s : List ℕ) (b : ℕ) (room : 512 * b + 512 ≤ length s) where
-  length-front : length (take 4 (drop (512 * b) s)) ≡ 4
+  pub length-front : length (take 4 (drop (512 * b) s)) ≡ 4
   length-front = simp (length-take, length-drop) (omega arith)
 
   pub length-covered : length (covered s b) ≡ 508

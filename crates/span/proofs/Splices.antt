@@ -1,15 +1,26 @@
 -- Parts of a buffer beside what is written over it, and splices apart from each other: either may come first. Assumes
 -- nothing.
-use Prim.Native.Nat.{ℕ, _+_, _-_, _≤_}
-use mathlib.Core.Path.{_≡_, sym, ap, ap₂, _∙_}
-use mathlib.Core.List.{List, _++_}
+use Prim.Native.Nat.{ℕ, zero, suc, _+_, _-_, _≤_}
+use mathlib.Core.Path.{_≡_, refl, sym, ap, ap₂, _∙_}
+use mathlib.Core.List.{List, [], _∷_, _++_}
 use native.Mathlib.Omega.{arith}
 use lib.ListN.{length, take, drop, length-drop, take-append-drop}
-use lib.Seq.{take-append-le, drop-append-le, drop-at, take-append-seam, length-take-le}
+use lib.Seq.{take-append-le, drop-append-le, drop-at, take-append-seam, length-take-le, take-take, drop-drop}
 use Rattle.machine.specs.Bytes.{part, splice}
 use Rattle.machine.proofs.Bytes.{splice-right, splice-whole}
 
 -- ---- parts
+
+-- of the first bytes
+part-of-first : (s : List ℕ) (w at v : ℕ) → at + v ≤ w → part (take w s) at v ≡ part s at v
+part-of-first s w zero v h = take-take v w s (omega arith)
+part-of-first s zero (suc at) v h = absurd (omega arith)
+part-of-first [] (suc w) (suc at) v h = refl
+part-of-first (x ∷ s) (suc w) (suc at) v h = part-of-first s w at v (omega arith)
+
+-- of a part
+pub part-part : (s : List ℕ) (x w at v : ℕ) → at + v ≤ w → part (part s x w) at v ≡ part s (x + at) v
+part-part s x w at v h = part-of-first (drop x s) w at v h ∙ ap (take v) (drop-drop at x s)
 
 -- of the first of two lists
 pub part-front : (a b : List ℕ) (at v : ℕ) → at + v ≤ length a → part (a ++ b) at v ≡ part a at v
@@ -26,8 +37,7 @@ module _ (s : List ℕ) (at : ℕ) (bs : List ℕ) (h : at ≤ length s) where
   unfolding splice
   part-before k w before =
       part-front (take at s) (bs ++ drop (at + length bs) s) k w (omega (arith, long))
-      ∙ sym (part-front (take at s) (drop at s) k w (omega (arith, long)))
-      ∙ ap (λ (l : List ℕ). part l k w) (take-append-drop at s)
+      ∙ part-of-first s at k w before
 
   -- just what is written
   pub part-written : part (splice s at bs) at (length bs) ≡ bs

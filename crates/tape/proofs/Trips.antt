@@ -1,0 +1,79 @@
+-- The round trips of the calls: what the writer filled, the reader gives back, and the other way round. Each call's
+-- tests are those of the size, of its input and of the room, so an accepted first call makes the second one accepted
+-- wherever there is room. Assumes nothing.
+use Prim.Native.Nat.{ℕ, _≤_}
+use mathlib.Core.Path.{_≡_, refl}
+use mathlib.Core.List.{List, [], _∷_}
+use lib.ListN.{length, take}
+use lib.Seq.{take-append-seam}
+use borrow.Author.Tests.{le-leb}
+use Rattle.machine.specs.declared.Verdict.{Verdict}
+use Rattle.machine.specs.declared.Verdict.the-variants.{Fine}
+use Rattle.machine.specs.Bytes.{splice}
+use Rattle.machine.specs.Tape.{listOf, tapeOf}
+use Rattle.machine.specs.Refusals.{orElse, codes, sizeVerdict, listVerdict, tapeVerdict, outputVerdict}
+use Rattle.machine.specs.Answers.{answer, writeVerdict, writeAnswer, writeOutput, readVerdict, readAnswer, readOutput}
+use Rattle.machine.proofs.Bytes.{Bytes}
+use Rattle.machine.proofs.Refusals.{first-fine, second-fine}
+use Rattle.tape.proofs.Round.{written-accepted, read-written, read-accepted, written-read}
+
+-- the tests of both calls: the size, the input, the room for what is to be written
+abbrev tests : ℕ → Verdict → ℕ → List ℕ → Verdict
+tests n input needed output = orElse (sizeVerdict n) (orElse input (outputVerdict needed output))
+
+module _ (n : ℕ) (input : Verdict) (needed : ℕ) (output : List ℕ) where
+  -- what accepted tests say, and what makes them accept
+  size-fine : tests n input needed output ≡ Fine → sizeVerdict n ≡ Fine
+  size-fine e = first-fine (sizeVerdict n) (orElse input (outputVerdict needed output)) e
+
+  input-fine : tests n input needed output ≡ Fine → input ≡ Fine
+  input-fine e =
+      let room = outputVerdict needed output in
+      first-fine input room (second-fine (sizeVerdict n) (orElse input room) e)
+
+  tests-fine : sizeVerdict n ≡ Fine → input ≡ Fine → needed ≤ length output → tests n input needed output ≡ Fine
+  unfolding outputVerdict
+  tests-fine size accepted room = rw (size, accepted, le-leb needed (length output) room)
+
+-- what was written to the start of a buffer
+splice-front : (s bs : List ℕ) → take (length bs) (splice s 0 bs) ≡ bs
+unfolding splice
+splice-front s bs = take-append-seam bs _
+
+-- ---- the writer, then the reader
+
+module _ (n : ℕ) (list output back : List ℕ) (fine : writeVerdict n list output ≡ Fine) where
+  -- the bytes that the writer filled
+  filled-tape : take (length (tapeOf list)) (writeOutput n list output) ≡ tapeOf list
+  unfolding writeOutput
+  filled-tape = rw fine (splice-front output (tapeOf list))
+
+  pub write-then-read : length list ≤ length back
+      → (readAnswer n (take (length (tapeOf list)) (writeOutput n list output)) back ≡ answer Fine (length list ∷ []))
+      × (readOutput n (take (length (tapeOf list)) (writeOutput n list output)) back ≡ splice back 0 list)
+  unfolding writeVerdict readVerdict readAnswer readOutput
+  write-then-read room =
+      let accepted = input-fine n (listVerdict codes n list) (length (tapeOf list)) output fine in
+      let size = size-fine n (listVerdict codes n list) (length (tapeOf list)) output fine in
+      let again = written-accepted codes n list accepted in
+      let read = tests-fine n (tapeVerdict codes n (tapeOf list)) (length list) back size again room in
+      rw (filled-tape, read-written codes n list accepted, read) (refl, refl)
+
+-- ---- the reader, then the writer
+
+module _ (n : ℕ) (tape output back : List ℕ) (small : Bytes tape) (fine : readVerdict n tape output ≡ Fine) where
+  -- the bytes that the reader filled
+  filled-list : take (length (listOf tape)) (readOutput n tape output) ≡ listOf tape
+  unfolding readOutput
+  filled-list = rw fine (splice-front output (listOf tape))
+
+  pub read-then-write : length tape ≤ length back
+      → (writeAnswer n (take (length (listOf tape)) (readOutput n tape output)) back ≡ answer Fine (length tape ∷ []))
+      × (writeOutput n (take (length (listOf tape)) (readOutput n tape output)) back ≡ splice back 0 tape)
+  unfolding writeVerdict readVerdict writeAnswer writeOutput
+  read-then-write room =
+      let accepted = input-fine n (tapeVerdict codes n tape) (length (listOf tape)) output fine in
+      let size = size-fine n (tapeVerdict codes n tape) (length (listOf tape)) output fine in
+      let again = read-accepted codes n tape accepted in
+      let written = tests-fine n (listVerdict codes n (listOf tape)) (length tape) back size again room in
+      rw (filled-list, written-read codes n tape small accepted, written) (refl, refl)
