@@ -13,8 +13,9 @@ use Rattle.machine.specs.declared.Verdict.{Verdict}
 use Rattle.machine.specs.declared.Verdict.the-variants as verdict
 use Rattle.machine.specs.Bytes.{zeros}
 use Rattle.machine.specs.Tape.{check, covered, slotAt, blockNumber, blockCount, blockCheck}
-use Rattle.machine.specs.Refusals.{orElse, first, eventFits, lengthVerdict, mostBlocks, mostEvents, blockFits, checkVerdict}
-use Rattle.machine.specs.Refusals.{numberVerdict, usedVerdict, unusedVerdict, blockVerdict, tapeVerdict, listVerdict}
+use Rattle.machine.specs.Refusals.{orElse, first, eventFits, lengthVerdict, mostBlocks, mostEvents, blockFits}
+use Rattle.machine.specs.Refusals.{checkVerdict, numberVerdict, usedVerdict, unusedVerdict}
+use Rattle.machine.specs.Refusals.{blockVerdict, tapeVerdict, listVerdict}
 use Rattle.machine.proofs.Refusals.{unless-fine, second-fine}
 use Rattle.blocks.specs.declared.Counted.the-variants.{Done, Refused}
 use Rattle.blocks.specs.Counted.{countedAs, headVerdict, eventsOn}

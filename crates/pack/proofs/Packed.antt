@@ -6,7 +6,7 @@ use mathlib.Core.Logic.{_⊎_, inl, inr}
 use mathlib.Core.List.{List, [], _∷_, _++_, append-assoc}
 use native.Mathlib.Omega.{arith}
 use lib.ListN.{length, take, drop, replicate, length-drop, length-append}
-use lib.Seq.{take-all, length-take-le}
+use lib.Seq.{take-all}
 use Rattle.machine.specs.Bytes.{part, bytes, splice}
 use Rattle.machine.specs.Tape.{check, covered, blockBytes, slotsFor, padded, blockFor}
 use Rattle.machine.proofs.Bytes.{lt-or-ge, length-bytes, length-splice, splice-next}

@@ -1,7 +1,8 @@
--- Blocks and stretches of events written one after the other: each starts where the one before it ends. Assumes nothing.
+-- Blocks and stretches of events written one after the other: each starts where the one before it ends. Assumes
+-- nothing.
 use Prim.Native.Nat.{ℕ, _+_, _-_, _*_, _≤_, _<_}
 use mathlib.Core.Path.{_≡_, sym, ap, ap₂, _∙_}
-use mathlib.Core.List.{List, [], _++_}
+use mathlib.Core.List.{List, _++_}
 use native.Mathlib.Omega.{arith}
 use lib.ListN.{length, drop, length-drop}
 use lib.Seq.{length-take-le}

@@ -1,5 +1,5 @@
 -- Which bytes of a list stand in which block: 504 in each but the last. Assumes nothing.
-use Prim.Native.Nat.{ℕ, _+_, _-_, _*_, min}
+use Prim.Native.Nat.{ℕ, _-_, _*_, min}
 use mathlib.Core.List.{List}
 use Rattle.machine.specs.Bytes.{part}
 use Rattle.machine.specs.Tape.{slotAt}

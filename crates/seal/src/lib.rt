@@ -1,4 +1,4 @@
-// The check of a block: two sums over its words of 16 bits (document 01, "The tape"; in the field, a Fletcher checksum).
+// The check of a block: two sums over its words of 16 bits, in the field a Fletcher checksum. Document 01, "The tape".
 use record::byte::wide32;
 ghost use mathlib.Core.Path.{_≡_};
 ghost use Prim.Native.Nat.{_+_, _*_, _≤_, _<_};

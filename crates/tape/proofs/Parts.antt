@@ -1,11 +1,11 @@
 -- Parts of joins of pieces of one width: what stands at an offset of one piece stands at that offset behind the pieces
 -- before it. Where two buffers have the same bytes, they have the same parts, bytes and events there. Assumes nothing.
 use Prim.Native.Nat.{ℕ, zero, suc, _+_, _-_, _*_, _≤_, _<_}
-use mathlib.Core.Path.{_≡_, refl, sym, ap, _∙_}
-use mathlib.Core.List.{List, [], _∷_, _++_, append-nil}
+use mathlib.Core.Path.{_≡_, sym, ap, _∙_}
+use mathlib.Core.List.{List, _++_, append-nil}
 use native.Mathlib.Omega.{arith}
-use lib.ListN.{length, getD, take, drop, length-drop}
-use lib.Seq.{take-append-le, drop-append-le, take-all, take-at, take-take, drop-drop, drop-append-add}
+use lib.ListN.{length, getD, take, drop}
+use lib.Seq.{take-all, take-at, drop-append-add}
 use lib.Seq.{getD-take, getD-drop}
 use Rattle.machine.specs.Bytes.{part, number, zeros}
 use Rattle.machine.specs.Lists.{tabulate, join}

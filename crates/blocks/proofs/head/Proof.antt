@@ -42,16 +42,18 @@ add-last c = omega arith
 
 returns-2 : tie.Need-returns-2
 returns-2 c =
-    let d = c .before .before .before .before in
+    let same = c .before .before .before in
+    let d = same .before in
     let a = d .before .before .before .args in
-    head-fits (a .tape .now) (a .b) (d .check-of .ensures) (d .before .number-at .ensures) (c .before .before .before .if1 .left)
+    head-fits (a .tape .now) (a .b) (d .check-of .ensures) (d .before .number-at .ensures) (same .if1 .left)
     (c .before .before .word-at .ensures .0) (c .before .word-at2 .ensures .0) (c .if2 .taken)
 
 returns-3 : tie.Need-returns-3
 returns-3 c =
-    let d = c .before .before .before .before in
+    let same = c .before .before .before in
+    let d = same .before in
     let a = d .before .before .before .args in
-    head-unfit (a .tape .now) (a .b) (d .check-of .ensures) (d .before .number-at .ensures) (c .before .before .before .if1 .left)
+    head-unfit (a .tape .now) (a .b) (d .check-of .ensures) (d .before .number-at .ensures) (same .if1 .left)
     (c .before .before .word-at .ensures .0) (c .before .word-at2 .ensures .0) (c .if2 .left)
 
 pub head-spec : {M : Type 1} → statement M

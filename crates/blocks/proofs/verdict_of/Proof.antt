@@ -1,8 +1,9 @@
--- What is left to test, of the tape and of the block in hand, decides for all, since what came before is fine. Assumes nothing.
-use Prim.Native.Nat.{ℕ, _+_, _-_, _*_, _/_, _≤_}
-use mathlib.Core.Path.{_≡_, refl, sym, ap, _∙_}
+-- What is left to test, of the tape and of the block in hand, decides for all, since what came before is fine. Assumes
+-- nothing.
+use Prim.Native.Nat.{ℕ, _-_, _*_, _≤_}
+use mathlib.Core.Path.{_≡_, sym, ap, _∙_}
+use mathlib.Core.List.{List}
 use native.Mathlib.Omega.{arith}
-use lib.ListN.{length}
 use borrow.Author.Tests.{not-true, not-false}
 use borrow.Author.Needs.{needs}
 use Rattle.machine.specs.declared.Verdict.the-variants.{Fine}
@@ -13,8 +14,8 @@ use Rattle.machine.specs.Refusals.{first, blockVerdict, usedVerdict, tapeVerdic
 use Rattle.blocks.proofs.First.{first-on, first-found, first-end}
 use Rattle.blocks.proofs.Blocks.{slotTest}
 use Rattle.blocks.proofs.Apart.{refused-is, done-fine, done-events}
-use Rattle.blocks.proofs.Ways.{head-refused, head-count, used-refused, unused-refused, slots-fine, slot-refused, slot-fine}
-use Rattle.blocks.proofs.Ways.{slots-start, tape-length-refused, blocks-start}
+use Rattle.blocks.proofs.Ways.{head-refused, head-count, used-refused, unused-refused, slots-fine}
+use Rattle.blocks.proofs.Ways.{slot-refused, slot-fine, slots-start, tape-length-refused, blocks-start}
 use Rattle.blocks.proofs.verdict_of.Statement.{statement}
 use Rattle.blocks.proofs.verdict_of.Tie as tie
 
@@ -32,22 +33,27 @@ Inv-blocks2 tape n codes verdict₀ b₀ b-end verdict b =
 abbrev μ-blocks2 : tie.MeasureT-blocks2
 μ-blocks2 tape n codes verdict₀ b₀ b-end verdict b = b-end - b
 
--- the block in hand: its head is fine, and its count is the rule's
-fine : (c : tie.After-known-told Inv-loop μ-loop Inv-blocks2 μ-blocks2)
-    → headVerdict (c .before .before .before .before .before .before .before .before .before .before .args .tape .now) (c .before .before .before .before .before .blocks2 .b) ≡ Fine
+-- the tape, and the number of the block in hand
+abbrev tapeIn : tie.After-known-told Inv-loop μ-loop Inv-blocks2 μ-blocks2 → List ℕ
+tapeIn c = c .before .before .before .before .before .before .before .before .before .before .args .tape .now
+
+abbrev blockIn : tie.After-known-told Inv-loop μ-loop Inv-blocks2 μ-blocks2 → ℕ
+blockIn c = c .before .before .before .before .before .blocks2 .b
+
+-- its head is fine, and its count is the rule's
+fine : (c : tie.After-known-told Inv-loop μ-loop Inv-blocks2 μ-blocks2) → headVerdict (tapeIn c) (blockIn c) ≡ Fine
 fine c = done-fine _ _ (c .before .before .before .head .ensures) (c .before .counted .given .1)
 
 counts : (c : tie.After-known-told Inv-loop μ-loop Inv-blocks2 μ-blocks2)
-    → c .before .counted .given .0 .0 ≡ blockCount (c .before .before .before .before .before .before .before .before .before .before .args .tape .now) (c .before .before .before .before .before .blocks2 .b)
+    → c .before .counted .given .0 .0 ≡ blockCount (tapeIn c) (blockIn c)
 counts c =
-    let a = c .before .before .before .before .before .before .before .before .before .before .args in
-    done-events (headVerdict (a .tape .now) (c .before .before .before .before .before .blocks2 .b)) _ (c .before .before .before .head .ensures)
+    done-events (headVerdict (tapeIn c) (blockIn c)) _ (c .before .before .before .head .ensures)
     (c .before .counted .given .1)
 
 few : (c : tie.After-known-told Inv-loop μ-loop Inv-blocks2 μ-blocks2) → c .before .counted .given .0 .0 ≤ 63
 few c =
     let a = c .before .before .before .before .before .before .before .before .before .before .args in
-    omega (arith, head-count (a .codes) (a .n) (a .tape .now) (c .before .before .before .before .before .blocks2 .b) (fine c), counts c)
+    omega (arith, head-count (a .codes) (a .n) (tapeIn c) (blockIn c) (fine c), counts c)
 
 length-verdict-requires : tie.Need-length-verdict-requires Inv-loop μ-loop Inv-blocks2 μ-blocks2
 length-verdict-requires c κs = omega arith
@@ -61,7 +67,8 @@ enum-told-2 c = omega arith
 returns : tie.Need-returns Inv-loop μ-loop Inv-blocks2 μ-blocks2
 returns c =
     let a = c .before .before .before .before .args in
-    tape-length-refused (a .codes) (a .n) (a .tape .now) (c .before .before .length-verdict .ensures) (c .enum-told2 .given .1)
+    tape-length-refused (a .codes) (a .n) (a .tape .now) (c .before .before .length-verdict .ensures)
+    (c .enum-told2 .given .1)
 
 blocks2-holds : tie.Need-blocks2-holds Inv-loop μ-loop Inv-blocks2 μ-blocks2
 blocks2-holds c =
@@ -195,7 +202,8 @@ returns-5 c =
     let o = k .before .before .before .before .before .blocks2 in
     let l = c .before .before .before .loop in
     let s = a .tape .now in
-    let slot = slot-refused (a .codes) (a .n) s (o .b) (l .j) (c .before .fits2 .ensures) (not-true _ (c .if1 .taken)) in
+    let fits = not-true _ (c .if1 .taken) in
+    let slot = slot-refused (a .codes) (a .n) s (o .b) (l .j) (c .before .fits2 .ensures) fits in
     let used = sym (l .inv .2) ∙ first-found (slotTest (a .codes) (a .n) s (o .b)) (l .j) _ (omega arith) slot in
     let block = used-refused (a .codes) (a .n) s (o .b) (fine k) used in
     sym (first-found (blockVerdict (a .codes) (a .n) s) (o .b) _ (omega arith) block) ∙ o .inv .2

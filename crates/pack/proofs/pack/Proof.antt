@@ -1,12 +1,11 @@
 -- After b blocks the start of the tape is the first b blocks of the list's tape. Assumes nothing.
-use Prim.Native.Nat.{_+_, _-_, _*_, _≤_}
-use mathlib.Core.Path.{_≡_, refl, ap, _∙_}
+use Prim.Native.Nat.{_-_, _≤_}
+use mathlib.Core.Path.{_≡_, refl}
 use native.Mathlib.Omega.{arith}
 use lib.ListN.{length}
 use Rattle.machine.specs.Bytes.{splice}
 use Rattle.machine.specs.Lists.{join, tabulate}
 use Rattle.machine.specs.Tape.{blockFor}
-use Rattle.span.proofs.Laws.{splice-none}
 use Rattle.pack.proofs.Rows.{joined-none, packed-more}
 use Rattle.pack.proofs.pack.Statement.{statement}
 use Rattle.pack.proofs.pack.Tie as tie
@@ -20,7 +19,9 @@ abbrev μ-loop : tie.MeasureT-loop
 μ-loop list blocks tape₀ b₀ tape b = blocks - b
 
 loop-holds : tie.Need-loop-holds Inv-loop μ-loop
-loop-holds c = (omega arith, refl, joined-none (c .before .before .args .tape .now) (blockFor (c .before .before .args .list .now)))
+loop-holds c =
+    let a = c .before .before .args in
+    (omega arith, refl, joined-none (a .tape .now) (blockFor (a .list .now)))
 
 pack-block-requires : tie.Need-pack-block-requires Inv-loop μ-loop
 pack-block-requires c κs = omega arith

@@ -57,13 +57,15 @@ same-length c = omega arith
 
 returns : tie.Need-returns
 returns c =
-    let cleared = c .before .before .before .before .before .before .before .before in
-    let wide = cleared .before .before .before .before .before .before .before .before .before .before in
+    let sum = c .before .before .before .before in
+    let zeros = sum .before .before .before .before in
+    let events = zeros .before .before .before .before in
+    let head = events .before .before .before .before in
+    let wide = head .before .before in
     let d = wide .before .before .before in
-    let a = d .args in
-    block-packed (a .list .now) (a .tape .now) (a .b) (wide .width-in .result) (d .pre .0) (d .pre .2)
-    (wide .width-in .ensures .0) (cleared .before .before .before .before .before .before .before .before .put-four .ensures) (cleared .before .before .before .before .copy .ensures)
-    (cleared .clear .ensures) (c .before .before .before .before .check-of .ensures) (c .before .before .put-number .ensures)
+    block-packed (d .args .list .now) (d .args .tape .now) (d .args .b) (wide .width-in .result) (d .pre .0) (d .pre .2)
+    (wide .width-in .ensures .0) (head .put-four .ensures) (events .copy .ensures) (zeros .clear .ensures)
+    (sum .check-of .ensures) (c .before .before .put-number .ensures)
 
 pub pack-block-spec : {M : Type 1} → statement M
 pack-block-spec =

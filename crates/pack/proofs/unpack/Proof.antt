@@ -1,6 +1,6 @@
 -- After b blocks the start of the list is the events of the first b blocks. Assumes nothing.
-use Prim.Native.Nat.{_+_, _-_, _*_, _≤_}
-use mathlib.Core.Path.{_≡_, refl, ap, _∙_}
+use Prim.Native.Nat.{_-_, _≤_}
+use mathlib.Core.Path.{_≡_, refl}
 use native.Mathlib.Omega.{arith}
 use lib.ListN.{length}
 use Rattle.machine.specs.Bytes.{splice}
@@ -19,7 +19,9 @@ abbrev μ-loop : tie.MeasureT-loop
 μ-loop tape blocks list₀ total b₀ list b = blocks - b
 
 loop-holds : tie.Need-loop-holds Inv-loop μ-loop
-loop-holds c = (omega arith, refl, joined-none (c .before .before .args .list .now) (takenFrom (c .before .before .args .tape .now) (c .before .before .args .total)))
+loop-holds c =
+    let a = c .before .before .args in
+    (omega arith, refl, joined-none (a .list .now) (takenFrom (a .tape .now) (a .total)))
 
 width-in-requires : tie.Need-width-in-requires Inv-loop μ-loop
 width-in-requires c κs = omega arith

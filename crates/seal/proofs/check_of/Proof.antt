@@ -1,15 +1,13 @@
+-- What was summed so far and what is left make both sums, and the remainders come last. Assumes nothing.
 use Prim.Native.Nat.{_+_, _-_, _*_, _≤_, _<_}
-use mathlib.Core.Path.{_≡_, sym, ap, _∙_}
+use mathlib.Core.Path.{_≡_}
 use lib.ListN.{drop}
 use native.Mathlib.Omega.{arith}
-use Rattle.machine.specs.Tape.{words, covered, checkFrom}
+use Rattle.machine.specs.Tape.{words, covered}
 use Rattle.seal.proofs.Sums as sum
 use Rattle.seal.proofs.Pass.{product-small, total-start, weighed-start, total-next, weighed-next, sums-check}
 use Rattle.seal.proofs.check_of.Statement.{statement}
 use Rattle.seal.proofs.check_of.Tie as tie
-use Rattle.seal.proofs.check_of.Reads as reads
-use Rattle.seal.proofs.check_of.Lts as lts
-use Rattle.seal.proofs.word_at.Reads as word-at-reads
 
 abbrev Inv-loop : tie.InvT-loop
 Inv-loop tape b start number count total₀ weighed₀ k₀ total weighed k =
@@ -20,39 +18,30 @@ Inv-loop tape b start number count total₀ weighed₀ k₀ total weighed k =
 abbrev μ-loop : tie.MeasureT-loop
 μ-loop tape b start number count total₀ weighed₀ k₀ total weighed k = 252 - k
 
--- src/lib.rt:23:17
 mul-start : tie.Need-mul-start Inv-loop μ-loop
 mul-start c = omega arith
 
--- src/lib.rt:24:9
 word-at-requires : tie.Need-word-at-requires Inv-loop μ-loop
 word-at-requires c κs = omega arith
 
--- src/lib.rt:25:31
 add-word-at : tie.Need-add-word-at Inv-loop μ-loop
 add-word-at c = omega arith
 
--- src/lib.rt:25:9
 word-at-requires-2 : tie.Need-word-at-requires-2 Inv-loop μ-loop
 word-at-requires-2 c κs = omega arith
 
--- src/lib.rt:26:21
 add-total : tie.Need-add-total Inv-loop μ-loop
 add-total c = omega arith
 
--- src/lib.rt:27:23
 mul-weighed : tie.Need-mul-weighed Inv-loop μ-loop
 mul-weighed c = omega arith
 
--- src/lib.rt:27:38
 mul-weighed-2 : tie.Need-mul-weighed-2 Inv-loop μ-loop
 mul-weighed-2 c = omega arith
 
--- src/lib.rt:27:23
 add-weighed : tie.Need-add-weighed Inv-loop μ-loop
 add-weighed c = omega arith
 
--- src/lib.rt:28:5
 loop-holds : tie.Need-loop-holds Inv-loop μ-loop
 loop-holds c =
     let d = c .before .before .before in
@@ -66,55 +55,45 @@ loop-holds c =
       weighed-start s (d .args .b) (d .pre) one two,
     )
 
--- src/lib.rt:29:34
 add-word-at-2 : tie.Need-add-word-at-2 Inv-loop μ-loop
 add-word-at-2 c = omega arith
 
--- src/lib.rt:29:46
 mul-word-at : tie.Need-mul-word-at Inv-loop μ-loop
 mul-word-at c = omega arith
 
--- src/lib.rt:29:34
 add-word-at-3 : tie.Need-add-word-at-3 Inv-loop μ-loop
 add-word-at-3 c = omega arith
 
--- src/lib.rt:29:13
 word-at-requires-3 : tie.Need-word-at-requires-3 Inv-loop μ-loop
 word-at-requires-3 c κs = omega arith
 
--- src/lib.rt:30:22
 sub-times : tie.Need-sub-times Inv-loop μ-loop
 sub-times c = omega arith
 
--- src/lib.rt:30:21
 cast-times : tie.Need-cast-times Inv-loop μ-loop
 cast-times c = omega arith
 
--- src/lib.rt:31:17
 add-total-2 : tie.Need-add-total-2 Inv-loop μ-loop
 add-total-2 c = omega arith
 
--- src/lib.rt:32:29
 mul-weighed-3 : tie.Need-mul-weighed-3 Inv-loop μ-loop
 mul-weighed-3 c =
-    let w = product-small (252 - c .before .before .loop .k) (c .word-at3 .result) (omega arith) (c .word-at3 .ensures .1) in
+    let l = c .before .before .loop in
+    let w = product-small (252 - l .k) (c .word-at3 .result) (omega arith) (c .word-at3 .ensures .1) in
     omega arith
 
--- src/lib.rt:32:19
 add-weighed-2 : tie.Need-add-weighed-2 Inv-loop μ-loop
 add-weighed-2 c =
-    let w = product-small (252 - c .before .before .loop .k) (c .word-at3 .result) (omega arith) (c .word-at3 .ensures .1) in
+    let l = c .before .before .loop in
+    let w = product-small (252 - l .k) (c .word-at3 .result) (omega arith) (c .word-at3 .ensures .1) in
     omega arith
 
--- src/lib.rt:28:9
 add-k : tie.Need-add-k Inv-loop μ-loop
 add-k c = omega arith
 
--- src/lib.rt:28:5
 loop-less : tie.Need-loop-less Inv-loop μ-loop
 loop-less c = omega arith
 
--- src/lib.rt:28:5
 loop-again : tie.Need-loop-again Inv-loop μ-loop
 loop-again c =
     let d = c .before .before .before .before .before .before in
@@ -130,20 +109,18 @@ loop-again c =
       weighed-next s (d .args .b) (d .pre) below is (l .weighed) (l .inv .4),
     )
 
--- src/lib.rt:34:21
 mul-result : tie.Need-mul-result Inv-loop μ-loop
 mul-result c = omega arith
 
--- src/lib.rt:34:5
 add-result : tie.Need-add-result Inv-loop μ-loop
 add-result c = omega arith
 
--- src/lib.rt:19:1
 returns : tie.Need-returns Inv-loop μ-loop
 returns c =
     let d = c .before .before .before .before .before in
     let l = c .before .loop in
-    sums-check (d .args .tape .now) (d .args .b) (d .pre) (l .k) (l .total) (l .weighed) (omega arith) (l .inv .3) (l .inv .4)
+    let a = d .args in
+    sums-check (a .tape .now) (a .b) (d .pre) (l .k) (l .total) (l .weighed) (omega arith) (l .inv .3) (l .inv .4)
 
 pub check-of-spec : {M : Type 1} → statement M
 check-of-spec =

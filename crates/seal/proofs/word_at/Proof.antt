@@ -1,40 +1,30 @@
+-- Two bytes, as the rule reads them. Assumes nothing.
 use Rattle.machine.proofs.Bytes.{number-2}
 use native.Mathlib.Omega.{arith}
 use Rattle.seal.proofs.word_at.Statement.{statement}
 use Rattle.seal.proofs.word_at.Tie as tie
-use Rattle.seal.proofs.word_at.Reads as reads
-use Rattle.seal.proofs.word_at.Lts as lts
-use Rattle.record.proofs.byte.wide32.Reads as wide32-reads
 
--- src/lib.rt:14:12
 shared-slice-read-wide32 : tie.Need-shared-slice-read-wide32
 shared-slice-read-wide32 c = omega arith
 
--- src/lib.rt:14:5
 wide32-requires : tie.Need-wide32-requires
 wide32-requires c κs = tt
 
--- src/lib.rt:14:44
 add-wide32 : tie.Need-add-wide32
 add-wide32 c = omega arith
 
--- src/lib.rt:14:38
 shared-slice-read-wide32-2 : tie.Need-shared-slice-read-wide32-2
 shared-slice-read-wide32-2 c = omega arith
 
--- src/lib.rt:14:31
 wide32-requires-2 : tie.Need-wide32-requires-2
 wide32-requires-2 c κs = tt
 
--- src/lib.rt:14:25
 mul-result : tie.Need-mul-result
 mul-result c = omega arith
 
--- src/lib.rt:14:5
 add-result : tie.Need-add-result
 add-result c = omega arith
 
--- src/lib.rt:10:1
 returns : tie.Need-returns
 returns c =
     let d = c .before .before .before .before .before in

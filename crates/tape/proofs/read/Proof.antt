@@ -38,8 +38,9 @@ returns-3 : tie.Need-returns-3
 returns-3 c =
     let t = c .before .before .before .before .before .before in
     let a = t .before .before .before .before .before .args in
-    read-tape (a .n) (a .tape .now) (a .output .now) (t .before .before .size-fits .ensures) (not-false _ (t .before .if1 .left))
-    (t .of .ensures) (c .before .before .before .before .counted2 .given .1 ∙ c .before .counted3 .given .1)
+    read-tape (a .n) (a .tape .now) (a .output .now) (t .before .before .size-fits .ensures)
+    (not-false _ (t .before .if1 .left)) (t .of .ensures)
+    (c .before .before .before .before .counted2 .given .1 ∙ c .before .counted3 .given .1)
 
 mul-total : tie.Need-mul-total
 mul-total c =
@@ -54,8 +55,9 @@ returns-4 : tie.Need-returns-4
 returns-4 c =
     let t = c .before .before .before .before in
     let a = t .before .before .before .before .before .args in
-    read-short (a .n) (a .tape .now) (a .output .now) (t .before .before .size-fits .ensures) (not-false _ (t .before .if1 .left))
-    (t .of .ensures) (c .before .before .counted .given .1) (c .if2 .taken)
+    read-short (a .n) (a .tape .now) (a .output .now) (t .before .before .size-fits .ensures)
+    (not-false _ (t .before .if1 .left)) (t .of .ensures) (c .before .before .counted .given .1)
+    (c .if2 .taken)
 
 unpack-requires : tie.Need-unpack-requires
 unpack-requires c κs =
@@ -71,10 +73,13 @@ same-length c = omega arith
 
 returns-5 : tie.Need-returns-5
 returns-5 c =
-    let t = c .before .before .before .before .before .before .before .before in
+    let room = c .before .before .before .before in
+    let fine = room .before .before in
+    let t = fine .before .before in
     let a = t .before .before .before .before .before .args in
-    read-done (a .n) (a .tape .now) (a .output .now) (t .before .before .size-fits .ensures) (not-false _ (t .before .if1 .left))
-    (t .of .ensures) (c .before .before .before .before .before .before .counted .given .1) (c .before .before .before .before .if2 .left) (c .before .before .unpack .ensures)
+    read-done (a .n) (a .tape .now) (a .output .now) (t .before .before .size-fits .ensures)
+    (not-false _ (t .before .if1 .left)) (t .of .ensures) (fine .counted .given .1) (room .if2 .left)
+    (c .before .before .unpack .ensures)
 
 pub read-spec : {M : Type 1} → statement M
 read-spec =

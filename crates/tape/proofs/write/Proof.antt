@@ -38,15 +38,16 @@ returns-3 : tie.Need-returns-3
 returns-3 c =
     let t = c .before .before .before .before .before .before in
     let a = t .before .before .before .before .before .args in
-    write-list (a .n) (a .list .now) (a .output .now) (t .before .before .size-fits .ensures) (not-false _ (t .before .if1 .left))
-    (t .list-verdict .ensures) (c .before .before .before .before .verdict .given .1 ∙ c .before .verdict2 .given .1)
+    write-list (a .n) (a .list .now) (a .output .now) (t .before .before .size-fits .ensures)
+    (not-false _ (t .before .if1 .left)) (t .list-verdict .ensures)
+    (c .before .before .before .before .verdict .given .1 ∙ c .before .verdict2 .given .1)
 
 blocks-for-requires : tie.Need-blocks-for-requires
 blocks-for-requires c κs =
     let t = c .before .before in
     let a = t .before .before .before .before .before .args in
-    write-events (a .n) (a .list .now) (a .output .now) (t .before .before .size-fits .ensures) (not-false _ (t .before .if1 .left))
-    (t .list-verdict .ensures) (c .enum-told .given .1)
+    write-events (a .n) (a .list .now) (a .output .now) (t .before .before .size-fits .ensures)
+    (not-false _ (t .before .if1 .left)) (t .list-verdict .ensures) (c .enum-told .given .1)
 
 mul-total : tie.Need-mul-total
 mul-total c = omega arith
@@ -55,8 +56,9 @@ returns-4 : tie.Need-returns-4
 returns-4 c =
     let t = c .before .before .before .before in
     let a = t .before .before .before .before .before .args in
-    write-short (a .n) (a .list .now) (a .output .now) (t .before .before .size-fits .ensures) (not-false _ (t .before .if1 .left))
-    (t .list-verdict .ensures) (c .before .before .enum-told .given .1) (c .before .blocks-for .ensures .0) (c .if2 .taken)
+    write-short (a .n) (a .list .now) (a .output .now) (t .before .before .size-fits .ensures)
+    (not-false _ (t .before .if1 .left)) (t .list-verdict .ensures) (c .before .before .enum-told .given .1)
+    (c .before .blocks-for .ensures .0) (c .if2 .taken)
 
 pack-requires : tie.Need-pack-requires
 pack-requires c κs = omega arith
@@ -66,11 +68,13 @@ same-length c = omega arith
 
 returns-5 : tie.Need-returns-5
 returns-5 c =
-    let t = c .before .before .before .before .before .before .before .before in
+    let room = c .before .before .before .before in
+    let fine = room .before .before in
+    let t = fine .before .before in
     let a = t .before .before .before .before .before .args in
-    write-done (a .n) (a .list .now) (a .output .now) (t .before .before .size-fits .ensures) (not-false _ (t .before .if1 .left))
-    (t .list-verdict .ensures) (c .before .before .before .before .before .before .enum-told .given .1) (c .before .before .before .before .before .blocks-for .ensures .0) (c .before .before .before .before .if2 .left)
-    (c .before .before .pack .ensures)
+    write-done (a .n) (a .list .now) (a .output .now) (t .before .before .size-fits .ensures)
+    (not-false _ (t .before .if1 .left)) (t .list-verdict .ensures) (fine .enum-told .given .1)
+    (room .before .blocks-for .ensures .0) (room .if2 .left) (c .before .before .pack .ensures)
 
 pub write-spec : {M : Type 1} → statement M
 write-spec =

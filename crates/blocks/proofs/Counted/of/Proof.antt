@@ -1,4 +1,5 @@
--- Refused as the verdict is; an accepted tape has 63 events a block but in the last, which has its count. Assumes nothing.
+-- Refused as the verdict is; an accepted tape has 63 events a block but in the last, which has its count. Assumes
+-- nothing.
 use mathlib.Core.Path.{_∙_}
 use native.Mathlib.Omega.{arith}
 use borrow.Author.Needs.{needs}
@@ -33,8 +34,9 @@ returns-2 c =
 
 sub-last : tie.Need-sub-last
 sub-last c =
-    let a = c .before .before .before .before .args in
-    let some = some-block (a .codes) (a .n) (a .tape .now) (c .before .before .verdict-of .ensures) (c .enum-told .given .1) in
+    let d = c .before .before in
+    let a = d .before .before .args in
+    let some = some-block (a .codes) (a .n) (a .tape .now) (d .verdict-of .ensures) (c .enum-told .given .1) in
     omega arith
 
 mul-word-at : tie.Need-mul-word-at
@@ -45,8 +47,9 @@ add-word-at c = omega arith
 
 word-at-requires : tie.Need-word-at-requires
 word-at-requires c κs =
-    let a = c .before .before .before .before .args in
-    let some = some-block (a .codes) (a .n) (a .tape .now) (c .before .before .verdict-of .ensures) (c .enum-told .given .1) in
+    let d = c .before .before in
+    let a = d .before .before .args in
+    let some = some-block (a .codes) (a .n) (a .tape .now) (d .verdict-of .ensures) (c .enum-told .given .1) in
     omega arith
 
 cast-count : tie.Need-cast-count
