@@ -36,7 +36,8 @@ pub fn blocks_for(events: usize) -> usize
 }
 
 // The writer call: the tape of a list of event bytes for n processes, at the start of the output, whose further bytes
-// stay. Refused with 1 for n, 6 for the list's length, 5 for an event, 10 for the output.
+// stay. Refused with 1 for n, 6 for the list's length, 5 for an event, 10 for the output. A lower layer's answer is fine
+// or refused, so the inner else is never reached; likewise in the reader.
 pub fn write(n: u64, list: &[u8], output: &mut [u8]) -> Filled
     ensures answer { λ r. ⌜ told r ≡ writeAnswer n (now (list .entry)) (now (output .entry)) ⌝ }
     ensures buffer { λ _. ⌜ now (output .exit) ≡ writeOutput n (now (list .entry)) (now (output .entry)) ⌝ }
@@ -52,12 +53,12 @@ pub fn write(n: u64, list: &[u8], output: &mut [u8]) -> Filled
         return Filled::Refused(refusal);
     };
     let blocks = blocks_for(list.len() / 8);
-    let total = 512 * blocks;
-    if output.len() < total {
+    let tape_length = 512 * blocks;
+    if output.len() < tape_length {
         return Filled::Refused(Refusal::Output);
     }
     pack(list, blocks, output);
-    Filled::Done(total)
+    Filled::Done(tape_length)
 }
 
 // The reader call: the list of event bytes of a tape for n processes, at the start of the output, whose further bytes
@@ -76,10 +77,10 @@ pub fn read(n: u64, tape: &[u8], output: &mut [u8]) -> Filled
         };
         return Filled::Refused(refusal);
     };
-    let total = 8 * events;
-    if output.len() < total {
+    let list_length = 8 * events;
+    if output.len() < list_length {
         return Filled::Refused(Refusal::Output);
     }
-    unpack(tape, tape.len() / 512, output, total);
-    Filled::Done(total)
+    unpack(tape, tape.len() / 512, output, list_length);
+    Filled::Done(list_length)
 }

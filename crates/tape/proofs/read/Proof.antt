@@ -42,8 +42,8 @@ returns-3 c =
     (not-false _ (t .before .if1 .left)) (t .of .ensures)
     (c .before .before .before .before .counted2 .given .1 ∙ c .before .counted3 .given .1)
 
-mul-total : tie.Need-mul-total
-mul-total c =
+mul-list-length : tie.Need-mul-list-length
+mul-list-length c =
     let t = c .before .before .before in
     let a = t .before .before .before .before .before .args in
     let facts =
@@ -94,7 +94,7 @@ read-spec =
     enum-told
     returns-2
     returns-3
-    mul-total
+    mul-list-length
     returns-4
     unpack-requires
     same-length

@@ -49,8 +49,8 @@ blocks-for-requires c κs =
     write-events (a .n) (a .list .now) (a .output .now) (t .before .before .size-fits .ensures)
     (not-false _ (t .before .if1 .left)) (t .list-verdict .ensures) (c .enum-told .given .1)
 
-mul-total : tie.Need-mul-total
-mul-total c = omega arith
+mul-tape-length : tie.Need-mul-tape-length
+mul-tape-length c = omega arith
 
 returns-4 : tie.Need-returns-4
 returns-4 c =
@@ -90,7 +90,7 @@ write-spec =
     returns-2
     returns-3
     blocks-for-requires
-    mul-total
+    mul-tape-length
     returns-4
     pack-requires
     same-length
