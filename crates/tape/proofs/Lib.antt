@@ -6,10 +6,10 @@ pub mod Parts
 pub mod Written
 pub mod Slots
 pub mod Round
-pub mod Trips
 pub mod Same
 pub mod Covered
 pub mod Moved
 pub mod Word
 pub mod Damage
+pub mod Trips
 pub mod Longest

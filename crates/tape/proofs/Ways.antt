@@ -17,14 +17,14 @@ use Rattle.machine.specs.Refusals.{orElse, sizeVerdict, outputVerdict}
 use Rattle.machine.specs.Answers.{answer, lent}
 
 -- its tests in order
-abbrev pub tests : ℕ → Verdict → List ℕ → List ℕ → Verdict
-tests n input done output = orElse (sizeVerdict n) (orElse input (outputVerdict (length done) output))
+abbrev pub tests : ℕ → Verdict → ℕ → List ℕ → Verdict
+tests n input needed output = orElse (sizeVerdict n) (orElse input (outputVerdict needed output))
 
 -- an answer and an output are the rule's
 abbrev pub Told : ℕ → Verdict → List ℕ → List ℕ → Verdict → List ℕ → List ℕ → Type 0
 Told n input done output v values out =
-    (answer v values ≡ answer (tests n input done output) (length done ∷ []))
-    × (out ≡ lent (tests n input done output) output (splice output 0 done))
+    (answer v values ≡ answer (tests n input (length done) output) (length done ∷ []))
+    × (out ≡ lent (tests n input (length done) output) output (splice output 0 done))
 
 module _ (n : ℕ) (input : Verdict) (done output : List ℕ) {fits : Bool} (is : fits ≡ sizeFits n) where
   pub size-refused : fits ≡ false → Told n input done output (Refused refusal.Size) [] output

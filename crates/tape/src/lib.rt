@@ -36,8 +36,8 @@ pub fn blocks_for(events: usize) -> usize
 }
 
 // The writer call: the tape of a list of event bytes for n processes, at the start of the output, whose further bytes
-// stay. Refused with 1 for n, 6 for the list's length, 5 for an event, 10 for the output. A lower layer's answer is fine
-// or refused, so the inner else is never reached; likewise in the reader.
+// stay. Refused with 1 for n, 6 for the list's length, 5 for an event, 10 for the output. A verdict is fine or refused,
+// so the inner else is never reached; the reader's likewise.
 pub fn write(n: u64, list: &[u8], output: &mut [u8]) -> Filled
     ensures answer { λ r. ⌜ told r ≡ writeAnswer n (now (list .entry)) (now (output .entry)) ⌝ }
     ensures buffer { λ _. ⌜ now (output .exit) ≡ writeOutput n (now (list .entry)) (now (output .entry)) ⌝ }
