@@ -56,8 +56,8 @@ fn head(tape: &[u8], b: usize) -> Counted
     }
 }
 
-// A tape's verdict, for n processes and so many codes. The first event that is refused leaves both loops. A block's head
-// is counted or refused, so the innermost else is never reached.
+// A tape's verdict, for n processes and so many codes. The first event that is refused leaves both loops. A head is
+// counted or refused, so the innermost else is never reached.
 fn verdict_of(tape: &[u8], n: usize, codes: u8) -> Verdict
     ensures { λ r. ⌜ r ≡ rule.tapeVerdict codes n (now (tape .entry)) ⌝ }
 {
@@ -106,8 +106,8 @@ pub fn list_verdict(list: &[u8], n: usize, codes: u8) -> Verdict
 }
 
 impl Counted {
-    // Internal: the tape's test: how many events it has, or the first refusal. A verdict is fine or refused, so the inner
-    // else is never reached.
+    // Internal: the tape's test: how many events it has, or the first refusal. A verdict is fine or refused, so the
+    // inner else is never reached.
     pub fn of(tape: &[u8], n: usize, codes: u8) -> Counted
         ensures { λ r. ⌜ r ≡ countedAs (rule.tapeVerdict codes n (now (tape .entry))) (eventsOn (now (tape .entry))) ⌝ }
     {
