@@ -102,6 +102,10 @@ bytes-4 n h =
     let top : n / 16777216 % 256 ≡ n / 16777216 = omega arith in
     rw (two, three, top)
 
+pub littleEndian-bytes-2 : (n : ℕ) → n < 65536 → littleEndian (bytes 2 n) ≡ n
+unfolding littleEndian bytes
+littleEndian-bytes-2 n h = omega arith
+
 pub littleEndian-bytes-4 : (n : ℕ) → n < 2 ^ 32 → littleEndian (bytes 4 n) ≡ n
 unfolding littleEndian
 littleEndian-bytes-4 n h = rw (bytes-4 n h) (omega (arith, shr-shr n 8 8, shr-shr n 16 8))

@@ -9,16 +9,11 @@ use lib.Seq.{take-all}
 use Rattle.machine.specs.Bytes.{part, littleEndian, number, bytes}
 use Rattle.machine.specs.Tape.{check, words, blockNumber, blockCount, blockCheck, covered}
 use Rattle.machine.specs.Tape.{blockBytes, slotsFor, padded, blockFor, blocksFor, tapeOf}
-use Rattle.machine.proofs.Bytes.{littleEndian-bytes-4}
+use Rattle.machine.proofs.Bytes.{littleEndian-bytes-2, littleEndian-bytes-4}
 use Rattle.seal.proofs.Sums.{check-small}
 use Rattle.blocks.proofs.Lengths.{slots-most, length-padded, length-block}
 use Rattle.span.proofs.Splices.{part-part}
 use Rattle.tape.proofs.Parts.{part-joined}
-
--- a number of 16 bits written and read back
-littleEndian-bytes-2 : (n : ℕ) → n < 65536 → littleEndian (bytes 2 n) ≡ n
-unfolding littleEndian bytes
-littleEndian-bytes-2 n h = omega arith
 
 -- how many slots of block b are used
 abbrev pub used : List ℕ → ℕ → ℕ
@@ -35,8 +30,8 @@ module _ (list : List ℕ) (b : ℕ) (below : b < blocksFor (length list / 8)) w
       ∙ ap (blockFor list) here
 
   -- and a part of them, which stands at k of the tape
-  part-written : (k at v : ℕ) → k ≡ 512 * b + at → at + v ≤ 512 → part (tapeOf list) k v ≡ part (blockFor list b) at v
-  part-written k at v here h =
+  block-part : (k at v : ℕ) → k ≡ 512 * b + at → at + v ≤ 512 → part (tapeOf list) k v ≡ part (blockFor list b) at v
+  block-part k at v here h =
       ap (λ (m : ℕ). part (tapeOf list) m v) here
       ∙ sym (part-part (tapeOf list) (512 * b) 512 at v h)
       ∙ ap (λ (l : List ℕ). part l at v) block-written
@@ -45,19 +40,19 @@ module _ (list : List ℕ) (b : ℕ) (below : b < blocksFor (length list / 8)) w
   pub number-written : b < 65536 → blockNumber (tapeOf list) b ≡ b
   unfolding number blockFor blockBytes bytes
   number-written h =
-      ap littleEndian (part-written (512 * b) 0 2 (omega arith) (omega arith)) ∙ littleEndian-bytes-2 b h
+      ap littleEndian (block-part (512 * b) 0 2 (omega arith) (omega arith)) ∙ littleEndian-bytes-2 b h
 
   pub count-written : blockCount (tapeOf list) b ≡ used list b
   unfolding number blockFor blockBytes bytes
   count-written =
-      ap littleEndian (part-written (512 * b + 2) 2 2 (omega arith) (omega arith))
+      ap littleEndian (block-part (512 * b + 2) 2 2 (omega arith) (omega arith))
       ∙ littleEndian-bytes-2 (used list b) (omega (arith, slots-most list b))
 
   pub slots-written : part (tapeOf list) (512 * b + 8) 504 ≡ padded (slotsFor list b)
   unfolding blockFor blockBytes bytes
   slots-written =
       let slots = padded (slotsFor list b) in
-      part-written (512 * b + 8) 8 504 (omega arith) (omega arith)
+      block-part (512 * b + 8) 8 504 (omega arith) (omega arith)
       ∙ take-all 504 slots (omega (arith, length-padded (slotsFor list b) (slots-most list b)))
 
   pub check-written : check (covered (tapeOf list) b) ≡ blockCheck (tapeOf list) b
@@ -65,7 +60,7 @@ module _ (list : List ℕ) (b : ℕ) (below : b < blocksFor (length list / 8)) w
   check-written =
       let under = (bytes 2 b ++ bytes 2 (used list b)) ++ padded (slotsFor list b) in
       ap check
-      (ap₂ (λ (x y : List ℕ). x ++ y) (part-written (512 * b) 0 4 (omega arith) (omega arith)) slots-written)
+      (ap₂ (λ (x y : List ℕ). x ++ y) (block-part (512 * b) 0 4 (omega arith) (omega arith)) slots-written)
       ∙ sym
-      (ap littleEndian (part-written (512 * b + 4) 4 4 (omega arith) (omega arith))
+      (ap littleEndian (block-part (512 * b + 4) 4 4 (omega arith) (omega arith))
       ∙ littleEndian-bytes-4 (check under) (check-small (words under)))
