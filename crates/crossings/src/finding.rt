@@ -5,9 +5,9 @@ use super::crossing::crossing_in;
 use super::list::Ran;
 use super::state::state;
 use super::state::status;
-use super::words::place;
-use super::words::say;
 use record::byte::wide;
+use words::place;
+use words::say;
 ghost use Prim.Native.Nat.{_≤_};
 
 // Stages 2 and 7: a process waits to send, and waits to receive.

@@ -4,6 +4,7 @@ use super::crossing::crossing_in;
 use machine::Outcome;
 use step::StepAnswer;
 use step::step;
+use words::digit;
 ghost use Prim.Native.Nat.{_+_, _*_, _≤_, _<_};
 ghost use lib.ListN.{length};
 
@@ -28,17 +29,6 @@ enum Came {
     Idle,
     Moved,
     Refused,
-}
-
-// Internal: the value of a digit; 255, which is neither a process nor a code, for any other byte.
-pub fn digit(byte: u8) -> u8 {
-    if byte < b'0' {
-        return 255;
-    }
-    if b'9' < byte {
-        return 255;
-    }
-    byte - b'0'
 }
 
 // Whether a list has its marks about event k: the dot in it, and the comma and the space before it.

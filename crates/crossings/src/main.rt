@@ -17,7 +17,6 @@ mod crossing; // crossing.rt: the requests that cross the envelope
 mod finding; // finding.rt: what a claim comes to, in words
 mod list; // list.rt: a list of events, read and performed
 mod state; // state.rt: the state in words
-mod words; // words.rt: words looked up and written
 
 use finding::claim_of;
 use finding::finding;
@@ -25,10 +24,10 @@ use image::FreshAnswer;
 use image::Ring;
 use list::Ran;
 use list::Replayed;
-use list::digit;
 use list::replay;
-use words::number;
+use words::digit;
 use words::say;
+use words::say_number;
 use words::until;
 ghost use Prim.Native.Nat.{_+_, _*_, _≤_};
 ghost use lib.ListN.{length};
@@ -54,10 +53,8 @@ fn fresh(image: &mut [u8], n: usize) -> bool
 
 // How many events were performed and how many of them were idle, at the end of a line.
 fn counts(ran: Ran) {
-    say(b" : ");
-    number(ran.events);
-    say(b" events, ");
-    number(ran.idle);
+    say_number(b" : ", ran.events);
+    say_number(b" events, ", ran.idle);
     say(b" idle\n");
 }
 

@@ -1,9 +1,9 @@
 // The state of a ring in words: the envelope, then each process with its flags.
 use super::Buffer;
-use super::words::flags;
-use super::words::number;
-use super::words::say;
 use record::byte::wide;
+use words::say;
+use words::say_number;
+use words::until;
 ghost use Prim.Native.Nat.{_≤_, _<_};
 
 // Internal: the name of a status, 0 for empty and 1 for full.
@@ -15,12 +15,25 @@ pub fn status(s: u8) {
     }
 }
 
+// Those words of a list whose bits are set, the first word's bit the lowest. Each word of the list has its space before
+// it.
+fn flags(words: &[u8], bits: usize) {
+    let mut rest = bits;
+    let mut at = 0;
+    while at < words.len() {
+        let end = until(words, at + 1, b' ');
+        if rest % 2 == 1 {
+            say(&words[at..end]);
+        }
+        rest /= 2;
+        at = end;
+    }
+}
+
 // How many processes are marked for full and for empty.
 fn marked(full: u8, empty: u8) {
-    say(b" cnt [");
-    number(wide(full));
-    say(b", ");
-    number(wide(empty));
+    say_number(b" cnt [", wide(full));
+    say_number(b", ", wide(empty));
     say(b"];");
 }
 
@@ -46,10 +59,8 @@ fn process(image: &Buffer, i: usize)
     requires { ⌜ i < 9 ⌝ }
 {
     let at = 16 + 8 * i;
-    say(b" p");
-    number(i);
-    say(b": stage ");
-    number(wide(image[at]));
+    say_number(b" p", i);
+    say_number(b": stage ", wide(image[at]));
     process_flags(image[at + 1], image[at + 2]);
     say(b";");
 }

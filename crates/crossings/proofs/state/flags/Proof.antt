@@ -3,8 +3,8 @@ use Prim.{tt}
 use Prim.Native.Nat.{_≤_, _-_}
 use native.Mathlib.Omega.{arith}
 use lib.ListN.{length}
-use Rattle.crossings.proofs.words.flags.Statement.{statement}
-use Rattle.crossings.proofs.words.flags.Tie as tie
+use Rattle.crossings.proofs.state.flags.Statement.{statement}
+use Rattle.crossings.proofs.state.flags.Tie as tie
 
 abbrev Inv-loop : tie.InvT-loop
 Inv-loop words bits rest₀ at₀ rest at = at ≤ length words

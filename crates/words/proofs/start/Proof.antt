@@ -1,27 +1,30 @@
--- The place stays between `from` and the text's end, and each turn takes it one further. Assumes nothing.
+-- The place stays within the text, however many words are passed. Assumes nothing.
 use Prim.Native.Nat.{_≤_, _-_}
 use native.Mathlib.Omega.{arith}
 use lib.ListN.{length}
-use Rattle.crossings.proofs.words.until.Statement.{statement}
-use Rattle.crossings.proofs.words.until.Tie as tie
+use Rattle.words.proofs.start.Statement.{statement}
+use Rattle.words.proofs.start.Tie as tie
 
 abbrev Inv-loop : tie.InvT-loop
-Inv-loop text from mark at₀ at = (from ≤ at) × (at ≤ length text)
+Inv-loop text k at₀ i₀ at i = (at ≤ length text) × (i ≤ k)
 
 abbrev μ-loop : tie.MeasureT-loop
-μ-loop text from mark at₀ at = length text - at
+μ-loop text k at₀ i₀ at i = k - i
 
 loop-holds : tie.Need-loop-holds Inv-loop μ-loop
 loop-holds c = omega arith
 
-shared-slice-read-if1 : tie.Need-shared-slice-read-if1 Inv-loop μ-loop
-shared-slice-read-if1 c = omega arith
+until-requires : tie.Need-until-requires Inv-loop μ-loop
+until-requires c κs = omega arith
 
 returns : tie.Need-returns Inv-loop μ-loop
 returns c = omega arith
 
 add-at : tie.Need-add-at Inv-loop μ-loop
 add-at c = omega arith
+
+add-i : tie.Need-add-i Inv-loop μ-loop
+add-i c = omega arith
 
 loop-less : tie.Need-loop-less Inv-loop μ-loop
 loop-less c = omega arith
@@ -32,16 +35,17 @@ loop-again c = omega arith
 returns-2 : tie.Need-returns-2 Inv-loop μ-loop
 returns-2 c = omega arith
 
-pub until-spec : {M : Type 1} → statement M
-until-spec =
+pub start-spec : {M : Type 1} → statement M
+start-spec =
     tie.close
     (tie.spec
     Inv-loop
     μ-loop
     loop-holds
-    shared-slice-read-if1
+    until-requires
     returns
     add-at
+    add-i
     loop-less
     loop-again
     returns-2)

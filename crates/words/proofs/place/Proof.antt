@@ -3,8 +3,8 @@ use Prim.{tt}
 use Prim.Native.Nat.{_≤_, _-_}
 use native.Mathlib.Omega.{arith}
 use lib.ListN.{length}
-use Rattle.crossings.proofs.words.place.Statement.{statement}
-use Rattle.crossings.proofs.words.place.Tie as tie
+use Rattle.words.proofs.place.Statement.{statement}
+use Rattle.words.proofs.place.Tie as tie
 
 abbrev Inv-loop : tie.InvT-loop
 Inv-loop words word k₀ at₀ k at = (k ≤ at) × (at ≤ length words)
