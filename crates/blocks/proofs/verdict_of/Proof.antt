@@ -5,7 +5,6 @@ use mathlib.Core.Path.{_≡_, sym, ap, _∙_}
 use mathlib.Core.List.{List}
 use native.Mathlib.Omega.{arith}
 use borrow.Author.Tests.{not-true, not-false}
-use borrow.Author.Needs.{needs}
 use Rattle.machine.specs.declared.Verdict.the-variants.{Fine}
 use Rattle.machine.specs.Bytes.{zeros}
 use Rattle.machine.specs.Tape.{slotAt, blockCount}
@@ -181,7 +180,7 @@ returns-2 c =
     o .inv .1 ∙ sym (first-end (blockVerdict (a .codes) (a .n) (a .tape .now)) (o .b) _ (omega arith)) ∙ o .inv .2
 
 returns-3 : tie.Need-returns-3 Inv-loop μ-loop Inv-blocks2 μ-blocks2
-returns-3 c = search needs
+returns-3 c = absurd (omega arith)
 
 returns-4 : tie.Need-returns-4 Inv-loop μ-loop Inv-blocks2 μ-blocks2
 returns-4 c =

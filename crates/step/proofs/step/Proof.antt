@@ -1,7 +1,6 @@
 -- Each refusal is the rule's first; past them the checked step does what the rule says. Assumes nothing.
 use mathlib.Core.Path.{_∙_}
 use native.Mathlib.Omega.{arith}
-use borrow.Author.Needs.{needs}
 use Rattle.step.proofs.Ways.{image-refused, event-refused, may-perform, step-done}
 use Rattle.step.proofs.step.Statement.{statement}
 use Rattle.step.proofs.step.Tie as tie
@@ -25,7 +24,7 @@ same-length : tie.Need-same-length
 same-length c = omega arith
 
 returns : tie.Need-returns
-returns c = search needs
+returns c = absurd (omega arith)
 
 same-length-2 : tie.Need-same-length-2
 same-length-2 c = omega arith
@@ -55,7 +54,7 @@ same-length-3 : tie.Need-same-length-3
 same-length-3 c = omega arith
 
 returns-3 : tie.Need-returns-3
-returns-3 c = search needs
+returns-3 c = absurd (omega arith)
 
 same-length-4 : tie.Need-same-length-4
 same-length-4 c = omega arith

@@ -1,7 +1,6 @@
 -- A refusal is the rule's; past it the walk over all processes is the rule's yes or no. Assumes nothing.
 use mathlib.Core.Path.{_∙_}
 use native.Mathlib.Omega.{arith}
-use borrow.Author.Needs.{needs}
 use Rattle.stopped.proofs.Ways.{stopped-refused, may-walk, stopped-yes, stopped-no}
 use Rattle.stopped.proofs.stopped.Statement.{statement}
 use Rattle.stopped.proofs.stopped.Tie as tie
@@ -22,7 +21,7 @@ enum-told : tie.Need-enum-told
 enum-told c = omega arith
 
 returns : tie.Need-returns
-returns c = search needs
+returns c = absurd (omega arith)
 
 returns-2 : tie.Need-returns-2
 returns-2 c =

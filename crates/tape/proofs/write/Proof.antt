@@ -2,9 +2,7 @@
 use mathlib.Core.Path.{_∙_}
 use native.Mathlib.Omega.{arith}
 use borrow.Author.Tests.{not-true, not-false}
-use borrow.Author.Needs.{needs}
 use Rattle.tape.proofs.Writer.{write-size, write-list, write-events, write-short, write-done}
-use borrow.Author.Needs.{needs}
 use Rattle.tape.proofs.write.Statement.{statement}
 use Rattle.tape.proofs.write.Tie as tie
 
@@ -32,7 +30,7 @@ enum-told-2 : tie.Need-enum-told-2
 enum-told-2 c = omega arith
 
 returns-2 : tie.Need-returns-2
-returns-2 c = search needs
+returns-2 c = absurd (omega arith)
 
 returns-3 : tie.Need-returns-3
 returns-3 c =

@@ -2,7 +2,6 @@
 -- nothing.
 use mathlib.Core.Path.{_∙_}
 use native.Mathlib.Omega.{arith}
-use borrow.Author.Needs.{needs}
 use Rattle.blocks.proofs.Ways.{counted-refused, some-block, counted-done}
 use Rattle.blocks.proofs.Counted.of.Statement.{statement}
 use Rattle.blocks.proofs.Counted.of.Tie as tie
@@ -23,7 +22,7 @@ enum-told-2 : tie.Need-enum-told-2
 enum-told-2 c = omega arith
 
 returns : tie.Need-returns
-returns c = search needs
+returns c = absurd (omega arith)
 
 returns-2 : tie.Need-returns-2
 returns-2 c =

@@ -4,7 +4,6 @@ use Prim.Native.Nat.{_+_, _*_}
 use mathlib.Core.Path.{ap, _∙_}
 use native.Mathlib.Omega.{arith}
 use lib.ListN.{set, length-set}
-use borrow.Author.Needs.{needs}
 use Rattle.machine.proofs.Fresh.{fresh-stores}
 use Rattle.machine.proofs.Refusals.{SizeFits, fresh-too-few, fresh-too-many, fresh-no-home, fresh-short, fresh-whole}
 use Rattle.machine.specs.declared.Refusal.the-variants as refusal
@@ -67,7 +66,7 @@ slice-write-image-2 : tie.Need-slice-write-image-2
 slice-write-image-2 c = simp length-set (omega arith)
 
 same-length : tie.Need-same-length
-same-length c = search needs
+same-length c = simp length-set (omega arith)
 
 returns-5 : tie.Need-returns-5
 returns-5 c =
