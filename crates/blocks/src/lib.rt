@@ -33,8 +33,8 @@ pub fn length_verdict(bytes: &[u8], unit: usize, least: usize, most: usize) -> V
     }
 }
 
-// Internal: the most blocks that a tape has.
-pub const MOST_BLOCKS: usize = 65536;
+// The most blocks that a tape has.
+const MOST_BLOCKS: usize = 65536;
 
 // A block's head: how many of its slots are used. Refused with 7 for its check, 8 for its number or its count.
 fn head(tape: &[u8], b: usize) -> Counted

@@ -8,7 +8,7 @@ use machine::Verdict;
 use pack::pack;
 use pack::unpack;
 ghost use mathlib.Core.Path.{_≡_};
-ghost use Prim.Native.Nat.{_*_, _≤_};
+ghost use Prim.Native.Nat.{_≤_};
 ghost use Rattle.machine.specs.Ring.{sizeFits};
 ghost use Rattle.machine.specs.Tape.{blocksFor};
 ghost use Rattle.machine.specs.Answers.{writeAnswer, writeOutput, readAnswer, readOutput};
@@ -27,8 +27,8 @@ fn size_fits(n: u64) -> bool
     (Ring::LEAST as u64 <= n) & (n <= Ring::MOST as u64)
 }
 
-// Internal: how many blocks so many events take.
-pub fn blocks_for(events: usize) -> usize
+// How many blocks so many events take.
+fn blocks_for(events: usize) -> usize
     requires { ⌜ events ≤ 4128768 ⌝ }
     ensures { λ r. ⌜ (r ≡ blocksFor events) × (r ≤ 65536) ⌝ }
 {
