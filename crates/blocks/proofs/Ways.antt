@@ -13,7 +13,7 @@ use Rattle.machine.specs.declared.Verdict.{Verdict}
 use Rattle.machine.specs.declared.Verdict.the-variants as verdict
 use Rattle.machine.specs.Bytes.{zeros}
 use Rattle.machine.specs.Tape.{check, covered, slotAt, blockNumber, blockCount, blockCheck}
-use Rattle.machine.specs.Refusals.{orElse, first, eventFits, lengthVerdict, mostBlocks, mostEvents, blockFits}
+use Rattle.machine.specs.Refusals.{unless, orElse, first, lengthVerdict, mostBlocks, mostEvents, blockFits}
 use Rattle.machine.specs.Refusals.{checkVerdict, numberVerdict, usedVerdict, unusedVerdict}
 use Rattle.machine.specs.Refusals.{blockVerdict, tapeVerdict, listVerdict}
 use Rattle.machine.proofs.Refusals.{unless-fine, second-fine}
@@ -67,6 +67,15 @@ module _ (s : List ℕ) (b : ℕ) {sum written : ℕ} (one : sum ≡ check (cove
       unfolding checkVerdict numberVerdict
       head-unfit e = rw (eq-eqb (check (covered s b)) (blockCheck s b) equal, ← fits-is, e)
 
+-- ---- a slot or an event, as code tests it
+
+module _ (r : Refusal) {fits rule : Bool} (is : fits ≡ rule) where
+  pub test-refused : fits ≡ false → unless rule r ≡ verdict.Refused r
+  test-refused e = rw (sym is ∙ e)
+
+  pub test-fine : fits ≡ true → unless rule r ≡ verdict.Fine
+  test-fine e = rw (sym is ∙ e)
+
 -- ---- a block
 
 -- tests in a row, however they are grouped
@@ -107,14 +116,6 @@ module _ (codes n : ℕ) (s : List ℕ) (b : ℕ) where
       unfolding unusedVerdict
       slots-fine e = by-slots ∙ rw (used, sym is ∙ e)
 
-  -- slot j
-  module _ (j : ℕ) {fits : Bool} (is : fits ≡ eventFits codes n s (slotAt b j)) where
-    pub slot-refused : fits ≡ false → slotTest codes n s b j ≡ verdict.Refused (refusal.Event (63 * b + j))
-    slot-refused e = rw (sym is ∙ e)
-
-    pub slot-fine : fits ≡ true → slotTest codes n s b j ≡ verdict.Fine
-    slot-fine e = rw (sym is ∙ e)
-
   -- before the first slot
   pub slots-start : {count : ℕ} → count ≡ blockCount s b
       → first (slotTest codes n s b) 0 (count - 0) ≡ usedVerdict codes n s b
@@ -149,14 +150,6 @@ module _ (codes n : ℕ) (s : List ℕ) {v : Verdict} (is : v ≡ lengthVerdict 
   pub events-start : v ≡ verdict.Fine → first (eventTest codes n s) 0 (length s / 8 - 0) ≡ listVerdict codes n s
   unfolding listVerdict
   events-start e = row-start _ (eventTest codes n s) (length s / 8) is e
-
--- event k of a list
-module _ (codes n : ℕ) (s : List ℕ) (k : ℕ) {fits : Bool} (is : fits ≡ eventFits codes n s (8 * k)) where
-  pub event-refused : fits ≡ false → eventTest codes n s k ≡ verdict.Refused (refusal.Event k)
-  event-refused e = rw (sym is ∙ e)
-
-  pub event-fine : fits ≡ true → eventTest codes n s k ≡ verdict.Fine
-  event-fine e = rw (sym is ∙ e)
 
 -- ---- how many events a tape has
 

@@ -14,8 +14,8 @@ pub fn word_at(bytes: &[u8], at: usize) -> u32
     wide32(bytes[at]) + 256 * wide32(bytes[at + 1])
 }
 
-// Internal: the check of block b's bytes. b counts a word once for itself and once for every word after it, so the sums
-// need no order; they fit, and one remainder at the end does for all.
+// Internal: the check of block b's bytes. The second sum counts a word once for itself and once for every word after
+// it, so neither sum needs an order; both fit, and one remainder at the end does for all.
 pub fn check_of(tape: &[u8], b: usize) -> u32
     requires { ⌜ 512 * b + 512 ≤ length (now tape) ⌝ }
     ensures { λ r. ⌜ r ≡ check (covered (now (tape .entry)) b) ⌝ }

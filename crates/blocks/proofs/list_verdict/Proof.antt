@@ -3,10 +3,11 @@ use Prim.Native.Nat.{_-_, _≤_}
 use mathlib.Core.Path.{_≡_, sym, _∙_}
 use native.Mathlib.Omega.{arith}
 use borrow.Author.Tests.{not-true, not-false}
+use Rattle.machine.specs.declared.Refusal.the-variants as refusal
 use Rattle.machine.specs.Refusals.{first, listVerdict}
 use Rattle.blocks.proofs.First.{first-on, first-found, first-end}
 use Rattle.blocks.proofs.Blocks.{eventTest}
-use Rattle.blocks.proofs.Ways.{list-length-refused, events-start, event-refused, event-fine}
+use Rattle.blocks.proofs.Ways.{list-length-refused, events-start, test-refused, test-fine}
 use Rattle.blocks.proofs.list_verdict.Statement.{statement}
 use Rattle.blocks.proofs.list_verdict.Tie as tie
 
@@ -53,9 +54,9 @@ returns-2 : tie.Need-returns-2 Inv-loop μ-loop
 returns-2 c =
     let l = c .before .before .before .loop in
     let a = c .before .before .before .before .before .before .before .before .args in
-    let s = a .list .now in
-    let event = event-refused (a .codes) (a .n) s (l .k) (c .before .fits2 .ensures) (not-true _ (c .if1 .taken)) in
-    sym (first-found (eventTest (a .codes) (a .n) s) (l .k) _ (omega arith) event) ∙ l .inv .1
+    let row = eventTest (a .codes) (a .n) (a .list .now) in
+    let event = test-refused (refusal.Event (l .k)) (c .before .fits2 .ensures) (not-true _ (c .if1 .taken)) in
+    sym (first-found row (l .k) _ (omega arith) event) ∙ l .inv .1
 
 add-k : tie.Need-add-k Inv-loop μ-loop
 add-k c = omega arith
@@ -67,9 +68,9 @@ loop-again : tie.Need-loop-again Inv-loop μ-loop
 loop-again c =
     let l = c .before .before .before .loop in
     let a = c .before .before .before .before .before .before .before .before .args in
-    let s = a .list .now in
-    let event = event-fine (a .codes) (a .n) s (l .k) (c .before .fits2 .ensures) (not-false _ (c .if1 .left)) in
-    (omega arith, sym (first-on (eventTest (a .codes) (a .n) s) (l .k) _ (omega arith) event) ∙ l .inv .1)
+    let row = eventTest (a .codes) (a .n) (a .list .now) in
+    let event = test-fine (refusal.Event (l .k)) (c .before .fits2 .ensures) (not-false _ (c .if1 .left)) in
+    (omega arith, sym (first-on row (l .k) _ (omega arith) event) ∙ l .inv .1)
 
 returns-3 : tie.Need-returns-3 Inv-loop μ-loop
 returns-3 c =

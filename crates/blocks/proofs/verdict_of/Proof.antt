@@ -1,10 +1,11 @@
 -- What is left to test, of the tape and of the block in hand, decides for all, since what came before is fine. Assumes
 -- nothing.
-use Prim.Native.Nat.{ℕ, _-_, _*_, _≤_}
+use Prim.Native.Nat.{ℕ, _+_, _-_, _*_, _≤_}
 use mathlib.Core.Path.{_≡_, sym, ap, _∙_}
 use mathlib.Core.List.{List}
 use native.Mathlib.Omega.{arith}
 use borrow.Author.Tests.{not-true, not-false}
+use Rattle.machine.specs.declared.Refusal.the-variants as refusal
 use Rattle.machine.specs.declared.Verdict.the-variants.{Fine}
 use Rattle.machine.specs.Bytes.{zeros}
 use Rattle.machine.specs.Tape.{slotAt, blockCount}
@@ -14,7 +15,7 @@ use Rattle.blocks.proofs.First.{first-on, first-found, first-end}
 use Rattle.blocks.proofs.Blocks.{slotTest}
 use Rattle.blocks.proofs.Apart.{refused-is, done-fine, done-events}
 use Rattle.blocks.proofs.Ways.{head-refused, head-count, used-refused, unused-refused, slots-fine}
-use Rattle.blocks.proofs.Ways.{slot-refused, slot-fine, slots-start, tape-length-refused, blocks-start}
+use Rattle.blocks.proofs.Ways.{test-refused, test-fine, slots-start, tape-length-refused, blocks-start}
 use Rattle.blocks.proofs.verdict_of.Statement.{statement}
 use Rattle.blocks.proofs.verdict_of.Tie as tie
 
@@ -130,11 +131,9 @@ loop-again c =
     let o = k .before .before .before .before .before .blocks2 in
     let l = c .before .before .before .loop in
     let s = a .tape .now in
-    let fits = slot-fine (a .codes) (a .n) s (o .b) (l .j) (c .before .fits2 .ensures) (not-false _ (c .if1 .left)) in (
-      omega arith,
-      l .inv .1,
-      sym (first-on (slotTest (a .codes) (a .n) s (o .b)) (l .j) _ (omega arith) fits) ∙ l .inv .2,
-    )
+    let row = slotTest (a .codes) (a .n) s (o .b) in
+    let slot = test-fine (refusal.Event (63 * o .b + l .j)) (c .before .fits2 .ensures) (not-false _ (c .if1 .left)) in
+    (omega arith, l .inv .1, sym (first-on row (l .j) _ (omega arith) slot) ∙ l .inv .2)
 
 mul-is-clear : tie.Need-mul-is-clear Inv-loop μ-loop Inv-blocks2 μ-blocks2
 mul-is-clear c = omega (arith, few (c .before .before))
@@ -201,9 +200,10 @@ returns-5 c =
     let o = k .before .before .before .before .before .blocks2 in
     let l = c .before .before .before .loop in
     let s = a .tape .now in
-    let fits = not-true _ (c .if1 .taken) in
-    let slot = slot-refused (a .codes) (a .n) s (o .b) (l .j) (c .before .fits2 .ensures) fits in
-    let used = sym (l .inv .2) ∙ first-found (slotTest (a .codes) (a .n) s (o .b)) (l .j) _ (omega arith) slot in
+    let row = slotTest (a .codes) (a .n) s (o .b) in
+    let refused = refusal.Event (63 * o .b + l .j) in
+    let slot = test-refused refused (c .before .fits2 .ensures) (not-true _ (c .if1 .taken)) in
+    let used = sym (l .inv .2) ∙ first-found row (l .j) _ (omega arith) slot in
     let block = used-refused (a .codes) (a .n) s (o .b) (fine k) used in
     sym (first-found (blockVerdict (a .codes) (a .n) s) (o .b) _ (omega arith) block) ∙ o .inv .2
 
