@@ -106,15 +106,15 @@ module _ (codes n : ℕ) (s : List ℕ) (b : ℕ) where
         → blockVerdict codes n s b ≡ verdict.Refused r
     used-refused e = by-slots ∙ rw e
 
-    module _ {clear : Bool} (used : usedVerdict codes n s b ≡ verdict.Fine)
-        (is : clear ≡ zeros s (slotAt b (blockCount s b)) (8 * (63 - blockCount s b))) where
+    module _ {count : ℕ} {clear : Bool} (counts : count ≡ blockCount s b)
+        (used : usedVerdict codes n s b ≡ verdict.Fine) (is : clear ≡ zeros s (slotAt b count) (8 * (63 - count))) where
       pub unused-refused : clear ≡ false → blockVerdict codes n s b ≡ verdict.Refused (refusal.Unused b)
       unfolding unusedVerdict
-      unused-refused e = by-slots ∙ rw (used, sym is ∙ e)
+      unused-refused e = by-slots ∙ rw (used, ← counts, sym is ∙ e)
 
       pub slots-fine : clear ≡ true → blockVerdict codes n s b ≡ verdict.Fine
       unfolding unusedVerdict
-      slots-fine e = by-slots ∙ rw (used, sym is ∙ e)
+      slots-fine e = by-slots ∙ rw (used, ← counts, sym is ∙ e)
 
   -- before the first slot
   pub slots-start : {count : ℕ} → count ≡ blockCount s b

@@ -1,14 +1,13 @@
 -- What is left to test, of the tape and of the block in hand, decides for all, since what came before is fine. Assumes
 -- nothing.
 use Prim.Native.Nat.{ℕ, _+_, _-_, _*_, _≤_}
-use mathlib.Core.Path.{_≡_, sym, ap, _∙_}
+use mathlib.Core.Path.{_≡_, sym, _∙_}
 use mathlib.Core.List.{List}
 use native.Mathlib.Omega.{arith}
 use borrow.Author.Tests.{not-true, not-false}
 use Rattle.machine.specs.declared.Refusal.the-variants as refusal
 use Rattle.machine.specs.declared.Verdict.the-variants.{Fine}
-use Rattle.machine.specs.Bytes.{zeros}
-use Rattle.machine.specs.Tape.{slotAt, blockCount}
+use Rattle.machine.specs.Tape.{blockCount}
 use Rattle.blocks.specs.Counted.{headVerdict}
 use Rattle.machine.specs.Refusals.{first, blockVerdict, usedVerdict, tapeVerdict}
 use Rattle.blocks.proofs.First.{first-on, first-found, first-end}
@@ -165,8 +164,8 @@ blocks2-again c =
     let s = a .tape .now in
     let row = slotTest (a .codes) (a .n) s (o .b) in
     let used = sym (l .inv .2) ∙ first-end row (l .j) (k .before .counted .given .0 .0) (omega arith) in
-    let is = c .before .is-clear .ensures ∙ ap (λ (m : ℕ). zeros s (slotAt (o .b) m) (8 * (63 - m))) (counts k) in
-    let block = slots-fine (a .codes) (a .n) s (o .b) (fine k) used is (not-false _ (c .if2 .left)) in (
+    let is = c .before .is-clear .ensures in
+    let block = slots-fine (a .codes) (a .n) s (o .b) (fine k) (counts k) used is (not-false _ (c .if2 .left)) in (
       omega arith,
       l .inv .1,
       sym (first-on (blockVerdict (a .codes) (a .n) s) (o .b) _ (omega arith) block) ∙ o .inv .2,
@@ -216,8 +215,8 @@ returns-6 c =
     let s = a .tape .now in
     let row = slotTest (a .codes) (a .n) s (o .b) in
     let used = sym (l .inv .2) ∙ first-end row (l .j) (k .before .counted .given .0 .0) (omega arith) in
-    let is = c .before .is-clear .ensures ∙ ap (λ (m : ℕ). zeros s (slotAt (o .b) m) (8 * (63 - m))) (counts k) in
-    let block = unused-refused (a .codes) (a .n) s (o .b) (fine k) used is (not-true _ (c .if2 .taken)) in
+    let is = c .before .is-clear .ensures in
+    let block = unused-refused (a .codes) (a .n) s (o .b) (fine k) (counts k) used is (not-true _ (c .if2 .taken)) in
     sym (first-found (blockVerdict (a .codes) (a .n) s) (o .b) _ (omega arith) block) ∙ o .inv .2
 
 pub verdict-of-spec : {M : Type 1} → statement M
