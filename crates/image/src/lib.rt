@@ -3,7 +3,7 @@ use machine::Refusal;
 use span::clear;
 ghost use mathlib.Core.Path.{_≡_};
 ghost use Prim.Native.Nat.{_<_};
-ghost use Rattle.machine.specs.Ring as neighbour;
+ghost use Rattle.machine.specs.Ring as rule;
 ghost use Rattle.machine.specs.Answers.{freshAnswer, freshImage};
 ghost use Rattle.image.specs.Fresh.{told};
 
@@ -24,16 +24,20 @@ impl Ring {
 
     pub const MOST: usize = 64;
 
+    // Internal: whether a ring may have n processes.
+    pub fn fits(n: u64) -> bool
+        ensures { λ r. ⌜ r ≡ rule.sizeFits n ⌝ }
+    {
+        (Ring::LEAST as u64 <= n) & (n <= Ring::MOST as u64)
+    }
+
     // The fresh ring call: an image of n processes that is all zero but for n and for the envelope at home, at the
     // start of a buffer whose further bytes stay. Refused with 1 for n, 2 for home, 3 for the buffer.
     pub fn fresh(n: u64, home: u64, image: &mut [u8]) -> FreshAnswer
         ensures answer { λ r. ⌜ told r ≡ freshAnswer n home (now (image .entry)) ⌝ }
         ensures buffer { λ _. ⌜ now (image .exit) ≡ freshImage n home (now (image .entry)) ⌝ }
     {
-        if n < Ring::LEAST as u64 {
-            return FreshAnswer::Refused(Refusal::Size);
-        }
-        if (Ring::MOST as u64) < n {
+        if !Ring::fits(n) {
             return FreshAnswer::Refused(Refusal::Size);
         }
         if n <= home {
@@ -53,7 +57,7 @@ impl Ring {
     // Internal: the process to the left of i, where requests go.
     pub fn left(self, i: usize) -> usize
         requires { ⌜ i < self .size ⌝ }
-        ensures { λ r. ⌜ r ≡ neighbour.left (self .size) i ⌝ }
+        ensures { λ r. ⌜ r ≡ rule.left (self .size) i ⌝ }
     {
         if i == 0 { self.size - 1 } else { i - 1 }
     }
@@ -61,7 +65,7 @@ impl Ring {
     // Internal: the process to the right of i, where the envelope goes.
     pub fn right(self, i: usize) -> usize
         requires { ⌜ i < self .size ⌝ }
-        ensures { λ r. ⌜ r ≡ neighbour.right (self .size) i ⌝ }
+        ensures { λ r. ⌜ r ≡ rule.right (self .size) i ⌝ }
     {
         if i + 1 == self.size { 0 } else { i + 1 }
     }

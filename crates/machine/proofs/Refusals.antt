@@ -157,13 +157,9 @@ module _ (s : List ℕ) where
 -- ---- each way through the tests of a fresh ring
 
 module _ (n home : ℕ) (s : List ℕ) where
-  pub fresh-too-few : n < 2 → freshVerdict n home s ≡ Refused refusal.Size
+  pub fresh-no-size : sizeFits n ≡ false → freshVerdict n home s ≡ Refused refusal.Size
   unfolding freshVerdict sizeVerdict
-  fresh-too-few few = rw (lt-leb 2 n few)
-
-  pub fresh-too-many : 2 ≤ n → 64 < n → freshVerdict n home s ≡ Refused refusal.Size
-  unfolding freshVerdict sizeVerdict
-  fresh-too-many low many = rw (le-leb 2 n low, lt-leb n 64 many)
+  fresh-no-size e = rw e
 
   pub fresh-no-home : SizeFits n → n ≤ home → freshVerdict n home s ≡ Refused refusal.Home
   unfolding freshVerdict sizeVerdict homeVerdict

@@ -9,7 +9,6 @@ use pack::pack;
 use pack::unpack;
 ghost use mathlib.Core.Path.{_≡_};
 ghost use Prim.Native.Nat.{_≤_};
-ghost use Rattle.machine.specs.Ring.{sizeFits};
 ghost use Rattle.machine.specs.Tape.{blocksFor};
 ghost use Rattle.machine.specs.Answers.{writeAnswer, writeOutput, readAnswer, readOutput};
 ghost use Rattle.tape.specs.Filled.{told};
@@ -18,13 +17,6 @@ ghost use Rattle.tape.specs.Filled.{told};
 pub enum Filled {
     Done(usize),
     Refused(Refusal),
-}
-
-// Whether a ring has n processes.
-fn size_fits(n: u64) -> bool
-    ensures { λ r. ⌜ r ≡ sizeFits n ⌝ }
-{
-    (Ring::LEAST as u64 <= n) & (n <= Ring::MOST as u64)
 }
 
 // How many blocks so many events take.
@@ -42,7 +34,7 @@ pub fn write(n: u64, list: &[u8], output: &mut [u8]) -> Filled
     ensures answer { λ r. ⌜ told r ≡ writeAnswer n (now (list .entry)) (now (output .entry)) ⌝ }
     ensures buffer { λ _. ⌜ now (output .exit) ≡ writeOutput n (now (list .entry)) (now (output .entry)) ⌝ }
 {
-    if !size_fits(n) {
+    if !Ring::fits(n) {
         return Filled::Refused(Refusal::Size);
     }
     let verdict = list_verdict(list, n as usize, Event::CODES);
@@ -67,7 +59,7 @@ pub fn read(n: u64, tape: &[u8], output: &mut [u8]) -> Filled
     ensures answer { λ r. ⌜ told r ≡ readAnswer n (now (tape .entry)) (now (output .entry)) ⌝ }
     ensures buffer { λ _. ⌜ now (output .exit) ≡ readOutput n (now (tape .entry)) (now (output .entry)) ⌝ }
 {
-    if !size_fits(n) {
+    if !Ring::fits(n) {
         return Filled::Refused(Refusal::Size);
     }
     let counted = Counted::of(tape, n as usize, Event::CODES);

@@ -6,13 +6,13 @@ use Rattle.tape.proofs.Reader.{read-size, read-tape, read-blocks, read-
 use Rattle.tape.proofs.read.Statement.{statement}
 use Rattle.tape.proofs.read.Tie as tie
 
-size-fits-requires : tie.Need-size-fits-requires
-size-fits-requires c κs = omega arith
+fits-requires : tie.Need-fits-requires
+fits-requires c κs = omega arith
 
 returns : tie.Need-returns
 returns c =
     let a = c .before .before .before .before .args in
-    read-size (a .n) (a .tape .now) (a .output .now) (c .before .size-fits .ensures) (not-true _ (c .if1 .taken))
+    read-size (a .n) (a .tape .now) (a .output .now) (c .before .fits2 .ensures) (not-true _ (c .if1 .taken))
 
 of-requires : tie.Need-of-requires
 of-requires c κs = omega arith
@@ -36,7 +36,7 @@ returns-3 : tie.Need-returns-3
 returns-3 c =
     let t = c .before .before .before .before .before .before in
     let a = t .before .before .before .before .before .args in
-    read-tape (a .n) (a .tape .now) (a .output .now) (t .before .before .size-fits .ensures)
+    read-tape (a .n) (a .tape .now) (a .output .now) (t .before .before .fits2 .ensures)
     (not-false _ (t .before .if1 .left)) (t .of .ensures)
     (c .before .before .before .before .counted2 .given .1 ∙ c .before .counted3 .given .1)
 
@@ -45,7 +45,7 @@ mul-list-length c =
     let t = c .before .before .before in
     let a = t .before .before .before .before .before .args in
     let facts =
-    read-blocks (a .n) (a .tape .now) (a .output .now) (t .before .before .size-fits .ensures)
+    read-blocks (a .n) (a .tape .now) (a .output .now) (t .before .before .fits2 .ensures)
     (not-false _ (t .before .if1 .left)) (t .of .ensures) (c .before .counted .given .1) in
     omega arith
 
@@ -53,7 +53,7 @@ returns-4 : tie.Need-returns-4
 returns-4 c =
     let t = c .before .before .before .before in
     let a = t .before .before .before .before .before .args in
-    read-short (a .n) (a .tape .now) (a .output .now) (t .before .before .size-fits .ensures)
+    read-short (a .n) (a .tape .now) (a .output .now) (t .before .before .fits2 .ensures)
     (not-false _ (t .before .if1 .left)) (t .of .ensures) (c .before .before .counted .given .1)
     (c .if2 .taken)
 
@@ -62,7 +62,7 @@ unpack-requires c κs =
     let t = c .before .before .before .before .before in
     let a = t .before .before .before .before .before .args in
     let facts =
-    read-blocks (a .n) (a .tape .now) (a .output .now) (t .before .before .size-fits .ensures)
+    read-blocks (a .n) (a .tape .now) (a .output .now) (t .before .before .fits2 .ensures)
     (not-false _ (t .before .if1 .left)) (t .of .ensures) (c .before .before .before .counted .given .1) in
     omega arith
 
@@ -75,7 +75,7 @@ returns-5 c =
     let fine = room .before .before in
     let t = fine .before .before in
     let a = t .before .before .before .before .before .args in
-    read-done (a .n) (a .tape .now) (a .output .now) (t .before .before .size-fits .ensures)
+    read-done (a .n) (a .tape .now) (a .output .now) (t .before .before .fits2 .ensures)
     (not-false _ (t .before .if1 .left)) (t .of .ensures) (fine .counted .given .1) (room .if2 .left)
     (c .before .before .unpack .ensures)
 
@@ -83,7 +83,7 @@ pub read-spec : {M : Type 1} → statement M
 read-spec =
     tie.close
     (tie.spec
-    size-fits-requires
+    fits-requires
     returns
     of-requires
     enum-known-counted

@@ -6,13 +6,13 @@ use Rattle.tape.proofs.Writer.{write-size, write-list, write-events, wr
 use Rattle.tape.proofs.write.Statement.{statement}
 use Rattle.tape.proofs.write.Tie as tie
 
-size-fits-requires : tie.Need-size-fits-requires
-size-fits-requires c κs = omega arith
+fits-requires : tie.Need-fits-requires
+fits-requires c κs = omega arith
 
 returns : tie.Need-returns
 returns c =
     let a = c .before .before .before .before .args in
-    write-size (a .n) (a .list .now) (a .output .now) (c .before .size-fits .ensures) (not-true _ (c .if1 .taken))
+    write-size (a .n) (a .list .now) (a .output .now) (c .before .fits2 .ensures) (not-true _ (c .if1 .taken))
 
 list-verdict-requires : tie.Need-list-verdict-requires
 list-verdict-requires c κs = omega arith
@@ -36,7 +36,7 @@ returns-3 : tie.Need-returns-3
 returns-3 c =
     let t = c .before .before .before .before .before .before in
     let a = t .before .before .before .before .before .args in
-    write-list (a .n) (a .list .now) (a .output .now) (t .before .before .size-fits .ensures)
+    write-list (a .n) (a .list .now) (a .output .now) (t .before .before .fits2 .ensures)
     (not-false _ (t .before .if1 .left)) (t .list-verdict .ensures)
     (c .before .before .before .before .verdict .given .1 ∙ c .before .verdict2 .given .1)
 
@@ -44,7 +44,7 @@ blocks-for-requires : tie.Need-blocks-for-requires
 blocks-for-requires c κs =
     let t = c .before .before in
     let a = t .before .before .before .before .before .args in
-    write-events (a .n) (a .list .now) (a .output .now) (t .before .before .size-fits .ensures)
+    write-events (a .n) (a .list .now) (a .output .now) (t .before .before .fits2 .ensures)
     (not-false _ (t .before .if1 .left)) (t .list-verdict .ensures) (c .enum-told .given .1)
 
 mul-tape-length : tie.Need-mul-tape-length
@@ -54,7 +54,7 @@ returns-4 : tie.Need-returns-4
 returns-4 c =
     let t = c .before .before .before .before in
     let a = t .before .before .before .before .before .args in
-    write-short (a .n) (a .list .now) (a .output .now) (t .before .before .size-fits .ensures)
+    write-short (a .n) (a .list .now) (a .output .now) (t .before .before .fits2 .ensures)
     (not-false _ (t .before .if1 .left)) (t .list-verdict .ensures) (c .before .before .enum-told .given .1)
     (c .before .blocks-for .ensures .0) (c .if2 .taken)
 
@@ -70,7 +70,7 @@ returns-5 c =
     let fine = room .before .before in
     let t = fine .before .before in
     let a = t .before .before .before .before .before .args in
-    write-done (a .n) (a .list .now) (a .output .now) (t .before .before .size-fits .ensures)
+    write-done (a .n) (a .list .now) (a .output .now) (t .before .before .fits2 .ensures)
     (not-false _ (t .before .if1 .left)) (t .list-verdict .ensures) (fine .enum-told .given .1)
     (room .before .blocks-for .ensures .0) (room .if2 .left) (c .before .before .pack .ensures)
 
@@ -78,7 +78,7 @@ pub write-spec : {M : Type 1} → statement M
 write-spec =
     tie.close
     (tie.spec
-    size-fits-requires
+    fits-requires
     returns
     list-verdict-requires
     enum-told

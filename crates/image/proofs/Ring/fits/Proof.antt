@@ -1,0 +1,10 @@
+-- The rule's two tests, as it makes them. Assumes nothing.
+use mathlib.Core.Path.{refl}
+use Rattle.image.proofs.Ring.fits.Statement.{statement}
+use Rattle.image.proofs.Ring.fits.Tie as tie
+
+returns : tie.Need-returns
+returns c = refl
+
+pub fits-spec : {M : Type 1} → statement M
+fits-spec = tie.close (tie.spec returns)
