@@ -14,6 +14,7 @@ use Rattle.machine.specs.Events.{startPut, startGet, work, signal, recei
 use Rattle.machine.specs.Events.{reaction, outcome, apply}
 use Rattle.machine.specs.Stopped.{quiet, stopped}
 use Rattle.machine.specs.Run.{ledgerRecord, ledgerEntry, ledgerFrom, counted, countsFrom, after}
+use Rattle.machine.specs.Balance.{filledFrom, takenFrom, totalsFrom}
 use Rattle.machine.specs.Tape.{eventIn, eventsIn, words, checkFrom, covered, usedSlots, listOf, blockBytes}
 use Rattle.machine.specs.Tape.{slotsFor, padded, blockFor, tapeOf}
 use Rattle.machine.specs.Refusals.{first, sizeVerdict, homeVerdict, roomVerdict, imageVerdict, eventFits}
@@ -53,6 +54,10 @@ unfoldable pub ofRun : Bool
 unfolding ledgerRecord ledgerEntry ledgerFrom counted countsFrom after
 ofRun = true
 
+unfoldable pub ofBalance : Bool
+unfolding filledFrom takenFrom totalsFrom
+ofBalance = true
+
 unfoldable pub ofTape : Bool
 unfolding eventIn eventsIn words checkFrom covered usedSlots listOf blockBytes slotsFor padded blockFor tapeOf
 ofTape = true
@@ -78,5 +83,5 @@ unfolding writeVerdict writeAnswer writeOutput readVerdict readAnswer readOutput
 ofTapeCalls = true
 
 unfoldable pub rules : Bool
-unfolding ofBytes ofLists ofImage ofSound ofEvents ofRun ofTape ofBlocks ofImageCalls ofRunCall ofTapeCalls
+unfolding ofBytes ofLists ofImage ofSound ofEvents ofRun ofBalance ofTape ofBlocks ofImageCalls ofRunCall ofTapeCalls
 rules = true

@@ -1,8 +1,8 @@
 -- An idle event changes nothing, and a put with news is never idle. Each part of a put hands the outcome on, so it is
 -- moved, sent or got; every other event that does something says moved, fill or take. Assumes nothing.
-use Prim.Native.Nat.{ℕ, _+_}
+use Prim.Native.Nat.{ℕ}
 use mathlib.Core.Path.{_≡_, refl, sym, ap, _∙_}
-use mathlib.Core.Bool.{Bool, true, false, not, cond, true≢false, or-false}
+use mathlib.Core.Bool.{Bool, true, false, not, cond, true≢false}
 use mathlib.Core.Logic.{_⊎_, inl, inr}
 use mathlib.Core.List.{List}
 use lib.ListN.{set}
@@ -12,9 +12,9 @@ use Rattle.machine.specs.declared.Envelope.{Envelope}
 use Rattle.machine.specs.declared.Process.{Process}
 use Rattle.machine.specs.declared.Reaction.{Reaction}
 use Rattle.machine.specs.declared.Outcome.{Outcome}
-use Rattle.machine.specs.declared.Outcome.the-variants.{Moved, Fill, Take, Sent, Got}
-use Rattle.machine.specs.Fields.{Status, full, empty, none, for, with, holding, blank, withStage, withHave}
-use Rattle.machine.specs.Fields.{withArriving, withNews, withAsked, withLink, withNote}
+use Rattle.machine.specs.declared.Outcome.the-variants.{Moved, Sent, Got}
+use Rattle.machine.specs.Fields.{Status, full, none, for, blank}
+use Rattle.machine.specs.Fields.{withNews}
 use Rattle.machine.specs.Image.{State}
 use Rattle.machine.specs.Stages.{told}
 use Rattle.machine.specs.Events.{Event, becomes, idle, ask, markFor, mark, unmark, clear}
@@ -23,7 +23,9 @@ use Rattle.machine.specs.Events.{heeding, forward, ends, putAt}
 use Rattle.machine.specs.Events.{startPut, startGet, work, signal, receive, hear, put, react}
 use Rattle.machine.specs.Events.{requested, arrived, processAt, change, place, reaction, outcome, apply}
 use Rattle.machine.specs.Stopped.{isIdle}
-use Rattle.machine.proofs.Ways.{choice, put-keeps, every-code}
+use Rattle.machine.proofs.Around.{no-request, no-arrival}
+use Rattle.machine.proofs.Ways.{choice, every-code}
+use Rattle.machine.proofs.Parts.{put-keeps}
 
 -- ---- a put moves
 
@@ -81,34 +83,28 @@ done-or-idle e p b x h = choice (Honest e p) b x (idle e p) (moving e p x h) (st
 module _ (e : Envelope) (p : Process) where
   start-put-honest : (m : ℕ) → Honest e p (startPut m e p)
   unfolding startPut
-  start-put-honest m = done-or-idle e p (eqb (p .stage) 0) (becomes Moved e (withStage 1 (withNote m p))) refl
+  start-put-honest m = done-or-idle e p (eqb (p .stage) 0) _ refl
 
   start-get-honest : Honest e p (startGet e p)
   unfolding startGet
-  start-get-honest = done-or-idle e p (eqb (p .stage) 0) (becomes Moved e (withStage 6 p)) refl
+  start-get-honest = done-or-idle e p (eqb (p .stage) 0) _ refl
 
   work-honest : Honest e p (work e p)
   unfolding work
   work-honest =
-      let fills = becomes (Fill (p .note)) (holding full (p .note) e) (withStage 4 (withNote 0 p)) in
-      let takes = becomes (Take (e .message)) (holding empty 0 e) (withStage 9 p) in
-      choice (Honest e p) (eqb (p .stage) 3) fills (cond (eqb (p .stage) 8) takes (idle e p)) (moving e p fills refl)
-      (done-or-idle e p (eqb (p .stage) 8) takes refl)
+      choice (Honest e p) (eqb (p .stage) 3) _ _ (moving e p _ refl) (done-or-idle e p (eqb (p .stage) 8) _ refl)
 
   signal-honest : Honest e p (signal e p)
   unfolding signal
-  signal-honest = done-or-idle e p (told (p .stage)) (becomes Moved e (withStage (p .stage + 1) (withNews true p))) refl
+  signal-honest = done-or-idle e p (told (p .stage)) _ refl
 
   receive-honest : Honest e p (receive e p)
   unfolding receive
-  receive-honest =
-      done-or-idle e p (p .arriving) (becomes Moved e (withArriving false (withHave true (withNews true p)))) refl
+  receive-honest = done-or-idle e p (p .arriving) _ refl
 
   hear-honest : (s : Status) → Honest e p (hear s e p)
   unfolding hear
-  hear-honest s =
-      let heard = withLink (with (p .link) s false) (withAsked (with (p .asked) s true) (withNews true p)) in
-      done-or-idle e p (for (p .link) s) (becomes Moved e heard) refl
+  hear-honest s = done-or-idle e p (for (p .link) s) _ refl
 
   put-honest : Honest e p (put e p)
   unfolding put
@@ -122,12 +118,6 @@ react-honest code m e p =
     (signal-honest e p) (receive-honest e p) (hear-honest e p) (put-honest e p) (still e p)
 
 -- ---- on the ring
-
-pub no-request : (p : Process) → requested none p ≡ p
-no-request p = rw (or-false (p .link .full), or-false (p .link .empty))
-
-pub no-arrival : (p : Process) → arrived false p ≡ p
-no-arrival p = rw (or-false (p .arriving))
 
 pub unchanged : (l : List Process) (k : ℕ) (f : Process → Process) → f (processAt l k) ≡ processAt l k
     → change l k f ≡ l

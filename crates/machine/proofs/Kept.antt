@@ -69,7 +69,7 @@ module _ (st : State) (v : Event) (below : v .process < length (st .processes)) 
       (marked-sum s after short ∙ omega (arith, marks, settled-at few f .tally s, count-sum st few (f .rest) s))
 
   -- and so every part of what fits
-  facts-kept : length (st .processes) ≤ 64 → StateFacts st → StateFacts (apply st v)
+  pub facts-kept : length (st .processes) ≤ 64 → StateFacts st → StateFacts (apply st v)
   unfolding apply stagesFit
   facts-kept few f =
       let ps = st .processes in

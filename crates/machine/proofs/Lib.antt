@@ -19,6 +19,8 @@ pub mod Stored
 pub mod Refusals
 pub mod Fresh
 pub mod Ways
+pub mod Parts
+pub mod Around
 pub mod Idle
 pub mod Neighbours
 pub mod Sums
@@ -33,3 +35,4 @@ pub mod Facts
 pub mod Kept
 pub mod Stopped
 pub mod Steps
+pub mod Balance

@@ -1,7 +1,7 @@
 -- Laws of lists by index and by element. Assumes nothing.
 use Prim.Native.Nat.{ℕ, zero, suc, _+_, _<_}
 use mathlib.Core.Path.{_≡_, refl, sym, ap, ap₂, _∙_, subst}
-use mathlib.Core.Bool.{Bool, true, false, _&&_, and-true, and-assoc}
+use mathlib.Core.Bool.{Bool, true, false, not, _&&_, _||_, and-true, and-assoc, true≢false, false≢true}
 use mathlib.Core.List.{List, [], _∷_, _++_}
 use native.Mathlib.Omega.{arith}
 use native.Mathlib.Numerals.{add-one}
@@ -19,6 +19,20 @@ and-first false b e = e
 pub and-second : (a b : Bool) → a && b ≡ true → b ≡ true
 and-second true b e = e
 and-second false b e = absurd (let z : _≡_ {A = ℕ} 0 1 = cc in omega arith)
+
+-- ---- alternatives that fail, and one test that follows from another
+
+pub or-first : (a b : Bool) → a || b ≡ false → a ≡ false
+or-first true b e = e
+or-first false b e = refl
+
+pub or-second : (a b : Bool) → a || b ≡ false → b ≡ false
+or-second true b e = absurd (true≢false e)
+or-second false b e = e
+
+pub follow : (a b : Bool) → not a || b ≡ true → a ≡ true → b ≡ true
+follow true b law holds = law
+follow false b law holds = absurd (false≢true holds)
 
 -- ---- tabulate
 

@@ -59,7 +59,7 @@ forward-asks r = alike asksOf (wanted (heeding r .envelope)) (leave (heeding r))
 
 end-put-asks : (r : Reaction) → endPut r .asks ≡ r .asks
 unfolding endPut ends
-end-put-asks r = alike asksOf (r .leaves) _ r refl refl
+end-put-asks r = alike asksOf (r .leaves) _ _ refl refl
 
 -- ---- so a put does one of the two
 

@@ -2,18 +2,21 @@
 -- only where the envelope leaves, which only a process that has it lets go; the marks fit the stage; and each count
 -- changes by just the process's own mark. It holds of the reaction so far, part by part. Assumes nothing.
 use Prim.Native.Nat.{ℕ, zero, suc, pred, _+_, _≤_}
-use mathlib.Core.Path.{_≡_, refl, ap}
-use mathlib.Core.Bool.{Bool, true, false, not, cond, _||_}
+use mathlib.Core.Path.{_≡_, refl, sym, ap, subst, _∙_}
+use mathlib.Core.Bool.{Bool, true, false, not, cond, _||_, false≢true}
 use native.Mathlib.Omega.{arith}
 use Rattle.machine.specs.declared.Pair.{Pair}
 use Rattle.machine.specs.declared.Marked.{Marked}
 use Rattle.machine.specs.declared.Envelope.{Envelope}
 use Rattle.machine.specs.declared.Process.{Process}
 use Rattle.machine.specs.declared.Reaction.{Reaction}
+use Rattle.machine.specs.declared.Outcome.the-variants.{Moved}
 use Rattle.machine.specs.Bytes.{bit}
-use Rattle.machine.specs.Fields.{Status, full, empty, for, with, count, withCount}
+use Rattle.machine.specs.Fields.{Status, full, empty, for, with, count, withCount, withNews, withMark, withMarked}
 use Rattle.machine.specs.Stages.{markable}
-use Rattle.machine.specs.Events.{ask, passFor, pass, markFor, unmark, clear, wanted, leave, heeding, forward}
+use Rattle.machine.specs.Events.{becomes, changed, ask, passFor, pass, markFor, unmark, clear, wanted, leave}
+use Rattle.machine.specs.Events.{heeding}
+use Rattle.machine.specs.Events.{forward}
 use Rattle.machine.proofs.Ways.{by-test}
 use Rattle.machine.proofs.Sums.{marksFor}
 
@@ -79,6 +82,41 @@ Owed e p r =
 
 -- ---- part by part
 
+-- a mark for s that isn't there yet is set, and counted
+abbrev marking : Status → Reaction → Reaction
+marking s r =
+    changed r (withMarked (withCount (r .envelope .marked) s (suc (count (r .envelope .marked) s))) (r .envelope))
+    (withMark (with (r .process .mark) s true) (r .process))
+
+mark-counts : (s : Status) (r : Reaction) → for (r .process .mark) s ≡ false → markFor s r ≡ marking s r
+unfolding markFor
+mark-counts s r off = rw off
+
+-- and one that is there is left alone
+mark-again : (s : Status) (r : Reaction) → for (r .process .mark) s ≡ true → markFor s r ≡ r
+unfolding markFor
+mark-again s r on = rw on
+
+-- a put begins with its news cleared
+abbrev pub begun : Envelope → Process → Reaction
+begun e p = becomes Moved e (withNews false p)
+
+-- and owes what its marks owe
+pub begun-owed : (e : Envelope) (p : Process) → ((s : Status) → not (for (p .mark) s) || markable s (p .stage) ≡ true)
+    → Owed e p (begun e p)
+begun-owed e p marks =
+    record {
+      status-same = refl;
+      message-same = refl;
+      stage-same = refl;
+      note-same = refl;
+      arriving-same = refl;
+      have-left = refl;
+      leaving = λ left. absurd (false≢true left);
+      marks-fit = marks;
+      tally = λ s. refl;
+    }
+
 module _ (e : Envelope) (p : Process) where
   pub ask-owed : (s : Status) (r : Reaction) → Owed e p r → Owed e p (ask s r)
   unfolding ask
@@ -94,20 +132,23 @@ module _ (e : Envelope) (p : Process) where
 
   pub mark-owed : (s : Status) (r : Reaction) → markable s (r .process .stage) ≡ true → Owed e p r
       → Owed e p (markFor s r)
-  unfolding markFor
-  mark-owed s r may o =
-      by-test (Owed e p) (for (r .process .mark) s) _ _ (λ _. o)
-      (λ off. record {
-        status-same = o .status-same;
-        message-same = o .message-same;
-        stage-same = o .stage-same;
-        note-same = o .note-same;
-        arriving-same = o .arriving-same;
-        have-left = o .have-left;
-        leaving = o .leaving;
-        marks-fit = λ t. mark-stays (r .process .mark) (r .process .stage) s t may (o .marks-fit t);
-        tally = λ t. mark-tally (r .envelope .marked) (r .process .mark) _ _ s t off (o .tally t);
-      })
+  mark-owed s r may o = go (for (r .process .mark) s) refl
+    where
+      go : (b : Bool) → for (r .process .mark) s ≡ b → Owed e p (markFor s r)
+      go true on = subst (Owed e p) (sym (mark-again s r on)) o
+      go false off =
+          subst (Owed e p) (sym (mark-counts s r off))
+          (record {
+            status-same = o .status-same;
+            message-same = o .message-same;
+            stage-same = o .stage-same;
+            note-same = o .note-same;
+            arriving-same = o .arriving-same;
+            have-left = o .have-left;
+            leaving = o .leaving;
+            marks-fit = λ t. mark-stays (r .process .mark) (r .process .stage) s t may (o .marks-fit t);
+            tally = λ t. mark-tally (r .envelope .marked) (r .process .mark) _ _ s t off (o .tally t);
+          })
 
   leave-owed : (r : Reaction) → p .have ≡ true → Owed e p r → Owed e p (leave r)
   unfolding leave
@@ -153,6 +194,21 @@ module _ (e : Envelope) (p : Process) where
     pub clear-owed : (s : Status) (r : Reaction) → Owed e p r → Owed e p (clear s r)
     unfolding clear
     clear-owed s r o = unmark-owed s _ o
+
+-- ---- what becomes of the have flag
+
+module _ (e : Envelope) (p : Process) (r : Reaction) (o : Owed e p r) where
+  -- it is off where it was off
+  pub off-stays : p .have ≡ false → r .process .have ≡ false
+  off-stays off = o .have-left ∙ ap (cond (r .leaves) false) off ∙ either-off (r .leaves)
+    where
+      either-off : (b : Bool) → cond b false false ≡ false
+      either-off true = refl
+      either-off false = refl
+
+  -- and where the envelope left
+  pub off-left : r .leaves ≡ true → r .process .have ≡ false
+  off-left left = o .have-left ∙ ap (λ (b : Bool). cond b false (p .have)) left
 
 -- ---- what becomes of the marks
 

@@ -23,6 +23,7 @@ use Rattle.machine.specs.Stages.{withEmpty, withFull}
 use Rattle.machine.specs.Sound.{places, stageFits}
 use Rattle.machine.specs.Events.{requested, arrived, processAt, change, place}
 use Rattle.machine.proofs.Lists.{and-first, and-second, all-at}
+use Rattle.machine.proofs.Around.{length-change}
 use Rattle.machine.proofs.Sums.{sum, sum-set, part-le, two-le, flagsSet, places-sum}
 
 -- ---- one record of a list
@@ -57,12 +58,7 @@ sum-change : (w : Process → ℕ) (l : List Process) (k : ℕ) (g : Process →
 unfolding change
 sum-change w l k g h = sum-set w l k (g (processAt l k)) h
 
--- no record more or less
-pub length-change : (l : List Process) (k : ℕ) (g : Process → Process) → length (change l k g) ≡ length l
-unfolding change
-length-change l k g = length-set l k (g (processAt l k))
-
--- nor after a reaction
+-- no record more or less after a reaction
 pub length-placed : (l : List Process) (i : ℕ) (r : Reaction) → length (place l i r) ≡ length l
 unfolding place
 length-placed l i r = simp (length-change, length-set)

@@ -15,7 +15,8 @@ use Rattle.machine.specs.Stages.{told}
 use Rattle.machine.specs.Events.{ask, markFor, mark, unmark, clear, wanted, leave, heeding}
 use Rattle.machine.specs.Events.{forward, ends, putAt, startPut, startGet, work, signal}
 use Rattle.machine.specs.Events.{receive, hear, put, react}
-use Rattle.machine.proofs.Ways.{choice, put-keeps, every-code}
+use Rattle.machine.proofs.Ways.{choice, every-code}
+use Rattle.machine.proofs.Parts.{put-keeps}
 
 -- the message and the note of a reaction, in range
 abbrev pub Small : Reaction → Type 0

@@ -1,8 +1,8 @@
 -- The eight events, each settled at its own process: a put by its parts (Owed), every other event at the stages where
 -- it is possible. Assumes nothing.
 use Prim.Native.Nat.{ℕ, _+_, _≤_}
-use mathlib.Core.Path.{_≡_, refl, sym, ap, subst}
-use mathlib.Core.Bool.{Bool, true, false, not, _&&_, _||_}
+use mathlib.Core.Path.{_≡_, refl, ap}
+use mathlib.Core.Bool.{Bool, true, false}
 use mathlib.Core.Logic.{inl, inr}
 use native.Mathlib.Omega.{arith}
 use lib.Dec.{eqb, leb}
@@ -14,11 +14,10 @@ use Rattle.machine.specs.Fields.{Status, full, for, count, withStage}
 use Rattle.machine.specs.Stages.{lastStage, told, withEmpty, withFull}
 use Rattle.machine.specs.Sound.{noteFits, stageFits}
 use Rattle.machine.specs.Events.{idle, startPut, startGet, work, signal, receive, hear, react}
-use Rattle.machine.proofs.Lists.{and-first}
 use Rattle.machine.proofs.Sums.{flagsSet, marksFor}
 use Rattle.machine.proofs.Ways.{by-test, every-code}
-use Rattle.machine.proofs.Settled.{FitsOf, Fits, Settled, either-way, has-come, follows, marks-follow, at-stage}
-use Rattle.machine.proofs.Settled.{still}
+use Rattle.machine.proofs.Settled.{FitsOf, Fits, Settled, told-each, has-come, follows, marks-follow, at-stage}
+use Rattle.machine.proofs.Settled.{had-at, still}
 use Rattle.machine.proofs.Puts.{put-settled}
 
 module _ (e : Envelope) (p : Process) (fits : Fits e p) where
@@ -34,7 +33,7 @@ module _ (e : Envelope) (p : Process) (fits : Fits e p) where
   start-put message =
       by-test (Settled e p) (eqb (p .stage) 0) _ _
       (λ found.
-      let f = at-stage e p fits 0 found in
+      let f = at-stage e p fits 0 (eqb-true (p .stage) 0 found) in
       still e p fits
       (record {
         envelope = f .envelope;
@@ -52,7 +51,7 @@ module _ (e : Envelope) (p : Process) (fits : Fits e p) where
   start-get =
       by-test (Settled e p) (eqb (p .stage) 0) _ _
       (λ found.
-      let f = at-stage e p fits 0 found in
+      let f = at-stage e p fits 0 (eqb-true (p .stage) 0 found) in
       still e p fits
       (record {
         envelope = f .envelope;
@@ -70,8 +69,8 @@ module _ (e : Envelope) (p : Process) (fits : Fits e p) where
   work-settled =
       by-test (Settled e p) (eqb (p .stage) 3) _ _
       (λ found.
-      let f = at-stage e p fits 3 found in
-      let had = and-first (p .have) (not (e .full)) (and-first (p .have && not (e .full)) true (f .has)) in
+      let f = at-stage e p fits 3 (eqb-true (p .stage) 3 found) in
+      let had = had-at e p fits 3 (eqb-true (p .stage) 3 found) refl in
       still e p fits
       (record {
         envelope = refl;
@@ -83,8 +82,8 @@ module _ (e : Envelope) (p : Process) (fits : Fits e p) where
       (inl had))
       (λ _. by-test (Settled e p) (eqb (p .stage) 8) _ _
       (λ found.
-      let f = at-stage e p fits 8 found in
-      let had = and-first (p .have) (e .full) (f .has) in
+      let f = at-stage e p fits 8 (eqb-true (p .stage) 8 found) in
+      let had = had-at e p fits 8 (eqb-true (p .stage) 8 found) refl in
       still e p fits
       (record {
         envelope = refl;
@@ -104,30 +103,30 @@ module _ (e : Envelope) (p : Process) (fits : Fits e p) where
   signal-settled =
       by-test (Settled e p) (told (p .stage)) _ _ (λ is-told. still e p fits (next is-told) (inr refl)) (λ _. nothing)
     where
-      step : (k : ℕ) → eqb (p .stage) k ≡ true → leb (k + 1) lastStage ≡ true → follows k (k + 1) ≡ true
+      -- what fits at the stage after k
+      After : ℕ → Type 0
+      After k = FitsOf (e .full) (e .message) (k + 1) (p .have) (p .mark) (p .note)
+
+      step : (k : ℕ) → p .stage ≡ k → leb (k + 1) lastStage ≡ true → follows k (k + 1) ≡ true
           → noteFits (withStage (k + 1) p) ≡ true
           → stageFits (e .full) (withStage (k + 1) p) ≡ true
-          → FitsOf (e .full) (e .message) (p .stage + 1) (p .have) (p .mark) (p .note)
-      step k found range follow note has =
-          subst (λ (n : ℕ). FitsOf (e .full) (e .message) (n + 1) (p .have) (p .mark) (p .note))
-          (sym (eqb-true (p .stage) k found))
-          (record {
+          → After k
+      step k here range follow note has =
+          record {
             envelope = fits .envelope;
             range = range;
-            marked = marks-follow k (k + 1) (p .mark) follow (at-stage e p fits k found .marked);
+            marked = marks-follow k (k + 1) (p .mark) follow (at-stage e p fits k here .marked);
             note-fits = note;
             has = has;
-          })
+          }
 
-      next : told (p .stage) ≡ true → FitsOf (e .full) (e .message) (p .stage + 1) (p .have) (p .mark) (p .note)
-      next =
-          either-way (eqb (p .stage) 1 || eqb (p .stage) 4 || eqb (p .stage) 6) (eqb (p .stage) 9)
-          (either-way (eqb (p .stage) 1 || eqb (p .stage) 4) (eqb (p .stage) 6)
-          (either-way (eqb (p .stage) 1) (eqb (p .stage) 4)
-          (λ found. step 1 found refl refl refl refl)
-          (λ found. step 4 found refl refl (at-stage e p fits 4 found .note-fits) (at-stage e p fits 4 found .has)))
-          (λ found. step 6 found refl refl (at-stage e p fits 6 found .note-fits) refl))
-          (λ found. step 9 found refl refl (at-stage e p fits 9 found .note-fits) (at-stage e p fits 9 found .has))
+      next : told (p .stage) ≡ true → After (p .stage)
+      next is-told =
+          told-each (λ (k : ℕ). p .stage ≡ k → After k) (λ here. step 1 here refl refl refl refl)
+          (λ here. let f = at-stage e p fits 4 here in step 4 here refl refl (f .note-fits) (f .has))
+          (λ here. step 6 here refl refl (at-stage e p fits 6 here .note-fits) refl)
+          (λ here. let f = at-stage e p fits 9 here in step 9 here refl refl (f .note-fits) (f .has)) (p .stage) is-told
+          refl
 
   -- code 4: the arriving flag becomes the have flag, which was off
   receive-settled : flagsSet p ≤ 1 → Settled e p (receive e p)

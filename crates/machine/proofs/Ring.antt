@@ -40,3 +40,10 @@ right-other n i h below same = apart (lt-or-ge (i + 1) n)
     apart : (i + 1 < n) ⊎ (n ≤ i + 1) → ⊥
     apart (inl inner) = absurd (omega (arith, right-inner n i inner))
     apart (inr last) = absurd (omega (arith, right-last n i (omega arith)))
+
+-- a process is the right of its left
+pub right-left : (n i : ℕ) → i < n → right n (left n i) ≡ i
+right-left n zero below =
+    ap (right n) (left-first n (omega arith)) ∙ right-last n (n - 1) (omega arith)
+right-left n (suc i) below =
+    ap (right n) (left-inner n (suc i) (omega arith) below) ∙ right-inner n (suc i - 1) (omega arith) ∙ omega arith

@@ -3,8 +3,8 @@
 -- own mark. Shown here of an event that touches no flag and no mark, and of a put from what its parts owe (Owed).
 -- Assumes nothing.
 use Prim.Native.Nat.{ℕ, _+_}
-use mathlib.Core.Path.{_≡_, refl, ap, subst, _∙_}
-use mathlib.Core.Bool.{Bool, true, false, not, cond, _&&_, _||_, true≢false, false≢true}
+use mathlib.Core.Path.{_≡_, refl, sym, ap, subst}
+use mathlib.Core.Bool.{Bool, true, false, not, cond, _&&_, _||_, Bool·beq, true≢false, false≢true}
 use mathlib.Core.Logic.{_⊎_, inr}
 use native.Mathlib.Omega.{arith}
 use lib.Dec.{eqb, leb}
@@ -16,9 +16,9 @@ use Rattle.machine.specs.declared.Outcome.{Outcome}
 use Rattle.machine.specs.declared.Reaction.{Reaction}
 use Rattle.machine.specs.Bytes.{bit}
 use Rattle.machine.specs.Fields.{Status, full, empty, for, count, holding, processOf}
-use Rattle.machine.specs.Stages.{lastStage, plain, noted, withEmpty, withFull, markable}
+use Rattle.machine.specs.Stages.{lastStage, plain, told, noted, withEmpty, withFull, markable}
 use Rattle.machine.specs.Events.{becomes, ends}
-use Rattle.machine.proofs.Lists.{and-first, and-second}
+use Rattle.machine.proofs.Lists.{and-first, and-second, follow}
 use Rattle.machine.proofs.Sums.{flagsSet, marksFor}
 use Rattle.machine.proofs.Owed.{Owed}
 
@@ -51,19 +51,47 @@ pub either-way : {A : Type 0} (a b : Bool) → (a ≡ true → A) → (b ≡ tru
 either-way true b one other e = one refl
 either-way false b one other e = other e
 
+-- the other of two statuses
+pub other-status : (a b : Status) → Bool·beq a b ≡ false → not a ≡ b
+other-status true true e = absurd (true≢false e)
+other-status true false e = refl
+other-status false true e = refl
+other-status false false e = absurd (true≢false e)
+
+-- and the same one
+pub same-status : (a b : Status) → Bool·beq a b ≡ true → a ≡ b
+same-status true true e = refl
+same-status true false e = absurd (false≢true e)
+same-status false true e = absurd (false≢true e)
+same-status false false e = refl
+
 -- a stage that needs the envelope
 abbrev pub needs : ℕ → Bool
 needs stage = withEmpty stage || withFull stage
 
--- the stages that the put thread treats alike don't
-pub plain-free : (stage : ℕ) → plain stage ≡ true → needs stage ≡ false
-plain-free stage =
+-- what holds at one stage holds where a test finds it
+found-at : (P : ℕ → Type 0) (k : ℕ) → P k → (stage : ℕ) → eqb stage k ≡ true → P stage
+found-at P k h stage e = subst P (sym (eqb-true stage k e)) h
+
+-- at the stages that the put thread treats alike
+pub plain-each : (P : ℕ → Type 0) → P 0 → P 1 → P 6 → (stage : ℕ) → plain stage ≡ true → P stage
+plain-each P at-0 at-1 at-6 stage =
     either-way (eqb stage 0 || eqb stage 1) (eqb stage 6)
-    (either-way (eqb stage 0) (eqb stage 1) (λ e. at 0 e refl) (λ e. at 1 e refl))
-    (λ e. at 6 e refl)
-  where
-    at : (k : ℕ) → eqb stage k ≡ true → needs k ≡ false → needs stage ≡ false
-    at k e free = ap needs (eqb-true stage k e) ∙ free
+    (either-way (eqb stage 0) (eqb stage 1) (found-at P 0 at-0 stage) (found-at P 1 at-1 stage))
+    (found-at P 6 at-6 stage)
+
+-- and at those at which main has told its get thread
+pub told-each : (P : ℕ → Type 0) → P 1 → P 4 → P 6 → P 9 → (stage : ℕ) → told stage ≡ true → P stage
+told-each P at-1 at-4 at-6 at-9 stage =
+    either-way (eqb stage 1 || eqb stage 4 || eqb stage 6) (eqb stage 9)
+    (either-way (eqb stage 1 || eqb stage 4) (eqb stage 6)
+    (either-way (eqb stage 1) (eqb stage 4) (found-at P 1 at-1 stage) (found-at P 4 at-4 stage))
+    (found-at P 6 at-6 stage))
+    (found-at P 9 at-9 stage)
+
+-- they don't need the envelope
+pub plain-free : (stage : ℕ) → plain stage ≡ true → needs stage ≡ false
+plain-free = plain-each (λ (k : ℕ). needs k ≡ false) refl refl refl
 
 -- a record that doesn't need the envelope fits without it
 has-left : (a b had status leaves : Bool) → (leaves ≡ true → a || b ≡ false)
@@ -82,6 +110,14 @@ has-come true b false status off h = absurd (false≢true h)
 has-come false true false status off h = absurd (false≢true h)
 has-come false false false status off h = refl
 
+-- a record that needs the envelope has it
+needs-had : (a b had status : Bool) → (not a || had && not status) && (not b || had && status) ≡ true
+    → a || b ≡ true
+    → had ≡ true
+needs-had a b true status h needed = refl
+needs-had true b false status h needed = h
+needs-had false b false status h needed = rw needed at h
+
 -- a have flag that goes off leaves with the envelope
 flags-left : (leaves had : Bool) (a : ℕ) → (leaves ≡ true → had ≡ true)
     → bit (cond leaves false had) + a + bit leaves ≡ bit had + a
@@ -98,26 +134,25 @@ pub marks-follow : (k j : ℕ) (m : Pair) → follows k j ≡ true
     → (s : Status) → not (for m s) || markable s j ≡ true
 marks-follow k j m f h s = go s (for m s) (h s)
   where
-    step : (a b : Bool) → not a || b ≡ true → a ≡ true → b ≡ true
-    step true b e t = e
-    step false b e t = absurd (false≢true t)
-
     may : (s : Status) → not (markable s k) || markable s j ≡ true
     may true = and-first _ (not (markable empty k) || markable empty j) f
     may false = and-second (not (markable full k) || markable full j) _ f
 
     go : (s : Status) (b : Bool) → not b || markable s k ≡ true → not b || markable s j ≡ true
-    go s true e = step (markable s k) (markable s j) (may s) e
+    go s true e = follow (markable s k) (markable s j) (may s) e
     go s false e = refl
 
 -- ---- from what is owed to what fits
 
 module _ (e : Envelope) (p : Process) (fits : Fits e p) where
-  -- what fits at the stage that a test found
-  pub at-stage : (k : ℕ) → eqb (p .stage) k ≡ true → FitsOf (e .full) (e .message) k (p .have) (p .mark) (p .note)
-  at-stage k found =
-      subst (λ (n : ℕ). FitsOf (e .full) (e .message) n (p .have) (p .mark) (p .note))
-      (eqb-true (p .stage) k found) fits
+  -- what fits at a known stage
+  pub at-stage : (k : ℕ) → p .stage ≡ k → FitsOf (e .full) (e .message) k (p .have) (p .mark) (p .note)
+  at-stage k here = subst (λ (n : ℕ). FitsOf (e .full) (e .message) n (p .have) (p .mark) (p .note)) here fits
+
+  -- a stage that needs the envelope has it
+  pub had-at : (k : ℕ) → p .stage ≡ k → needs k ≡ true → p .have ≡ true
+  had-at k here needed =
+      needs-had (withEmpty (p .stage)) (withFull (p .stage)) (p .have) (e .full) (fits .has) (rw here needed)
 
   -- an event that touches no flag of the envelope's place and no mark
   pub still : {o : Outcome} {status : Status} {message stage : ℕ} {news : Bool} {asked link : Pair} {note : ℕ}

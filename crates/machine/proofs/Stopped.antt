@@ -1,10 +1,9 @@
 -- Stopped means what it says: yes exactly when for every process and every code 2 to 7 the outcome is idle. And a
 -- process is quiet exactly when no event finds anything to do at it, which is how code asks. Assumes nothing.
-use Prim.Native.Nat.{ℕ, zero, suc, _≤_, _<_}
+use Prim.Native.Nat.{ℕ, zero, suc, _≤_}
 use mathlib.Core.Path.{_≡_, refl, _∙_}
 use mathlib.Core.Bool.{Bool, true, false, not, cond, _&&_, and-true, and-assoc, false≢true}
 use native.Mathlib.Omega.{arith}
-use lib.ListN.{length}
 use lib.Dec.{eqb, lit≤}
 use Rattle.machine.specs.declared.Envelope.{Envelope}
 use Rattle.machine.specs.declared.Process.{Process}
@@ -17,7 +16,7 @@ use Rattle.machine.specs.Image.{State}
 use Rattle.machine.specs.Stages.{told}
 use Rattle.machine.specs.Events.{idle, work, signal, receive, hear, put, react, processAt, reaction}
 use Rattle.machine.specs.Events.{outcome}
-use Rattle.machine.specs.Stopped.{isIdle, quiet, stopped}
+use Rattle.machine.specs.Stopped.{isIdle, quiet, stopped, Stopped}
 use Rattle.machine.proofs.Lists.{and-first, and-second, all-at}
 use Rattle.machine.proofs.Idle.{idles, put-at-moves}
 use Rattle.machine.proofs.Placed.{all-each}
@@ -94,12 +93,6 @@ means-quiet e p each =
     )
 
 -- ---- every process
-
--- for every process and every code 2 to 7 the outcome is idle
-abbrev pub Stopped : State → Type 0
-Stopped st =
-    (i : ℕ) → i < length (st .processes) → (code : ℕ) → 2 ≤ code → code ≤ 7
-    → outcome st (record { process = i; code = code; message = 0 }) ≡ Idle
 
 pub stopped-means : (st : State) → stopped st ≡ true → Stopped st
 unfolding stopped outcome reaction

@@ -1,18 +1,17 @@
 -- What holds on every way through an event holds of it: over a choice, over the stages of a put, over the eight codes.
 -- A law about reactions is proved for each part once, and taken from here to the whole. Assumes nothing.
 use Prim.Native.Nat.{ℕ}
-use mathlib.Core.Path.{_≡_, refl}
-use mathlib.Core.Bool.{Bool, true, false, cond, Bool·beq}
-use mathlib.Core.Logic.{_⊎_, inl, inr}
+use mathlib.Core.Path.{_≡_, refl, sym, subst}
+use mathlib.Core.Bool.{Bool, true, false, cond, _||_}
 use lib.Dec.{eqb}
+use borrow.Author.Tests.{eqb-true}
 use Rattle.machine.specs.declared.Envelope.{Envelope}
 use Rattle.machine.specs.declared.Process.{Process}
 use Rattle.machine.specs.declared.Reaction.{Reaction}
-use Rattle.machine.specs.declared.Outcome.{Outcome}
-use Rattle.machine.specs.declared.Outcome.the-variants.{Sent, Got}
-use Rattle.machine.specs.Fields.{Status, full, empty, for, withStage}
+use Rattle.machine.specs.declared.Outcome.the-variants.{Got}
+use Rattle.machine.specs.Fields.{Status, full, empty}
 use Rattle.machine.specs.Stages.{plain}
-use Rattle.machine.specs.Events.{changed, idle, ask, passFor, pass, mark, clear, forward, ends, stroll, wait}
+use Rattle.machine.specs.Events.{idle, clear, forward, ends, stroll, wait}
 use Rattle.machine.specs.Events.{endPut, putAt}
 use Rattle.machine.specs.Events.{startPut, startGet, work, signal, receive, hear, put, react}
 
@@ -27,77 +26,58 @@ pub choice : {A : Type 0} (P : A → Type 0) (b : Bool) (x y : A) → P x → P 
 choice P true x y hx hy = hx
 choice P false x y hx hy = hy
 
--- the put, whatever stage it finds
+-- the stages at which a put does more than clear its news
+abbrev pub moving : ℕ → Bool
+moving stage = plain stage || eqb stage 2 || eqb stage 7 || eqb stage 5 || eqb stage 10
+
+-- the put by the stage that it finds, which each way may know
+pub by-stage : (P : Reaction → Type 0) (stage : ℕ) (r : Reaction) → (plain stage ≡ true → P (stroll r))
+    → (stage ≡ 2 → P (wait empty 3 r))
+    → (stage ≡ 7 → P (wait full 8 r))
+    → (stage ≡ 5 → P (endPut (forward (clear empty r))))
+    → (stage ≡ 10 → P (ends Got (forward (clear full r))))
+    → (moving stage ≡ false → P r)
+    → P (putAt stage r)
+unfolding putAt
+by-stage P stage r strolls waits-empty waits-full sends gets calm =
+    by-test P (plain stage) _ _ strolls
+    (λ not-plain. by-test P (eqb stage 2) _ _ (λ found. waits-empty (eqb-true stage 2 found))
+    (λ not-2. by-test P (eqb stage 7) _ _ (λ found. waits-full (eqb-true stage 7 found))
+    (λ not-7. by-test P (eqb stage 5) _ _ (λ found. sends (eqb-true stage 5 found))
+    (λ not-5. by-test P (eqb stage 10) _ _ (λ found. gets (eqb-true stage 10 found))
+    (λ not-10. calm (rw (not-plain, not-2, not-7, not-5, not-10)))))))
+
+-- and where none need
 pub every-stage : (P : Reaction → Type 0) (stage : ℕ) (r : Reaction) → P (stroll r) → P (wait empty 3 r)
     → P (wait full 8 r) → P (endPut (forward (clear empty r))) → P (ends Got (forward (clear full r))) → P r
     → P (putAt stage r)
-unfolding putAt
 every-stage P stage r strolls waits-empty waits-full sends gets calm =
-    let from-10 = cond (eqb stage 10) (ends Got (forward (clear full r))) r in
-    let from-5 = cond (eqb stage 5) (endPut (forward (clear empty r))) from-10 in
-    let from-7 = cond (eqb stage 7) (wait full 8 r) from-5 in
-    choice P (plain stage) (stroll r) (cond (eqb stage 2) (wait empty 3 r) from-7) strolls
-    (choice P (eqb stage 2) (wait empty 3 r) from-7 waits-empty
-    (choice P (eqb stage 7) (wait full 8 r) from-5 waits-full
-    (choice P (eqb stage 5) (endPut (forward (clear empty r))) from-10 sends
-    (choice P (eqb stage 10) (ends Got (forward (clear full r))) r gets calm))))
+    by-stage P stage r (λ _. strolls) (λ _. waits-empty) (λ _. waits-full) (λ _. sends) (λ _. gets) (λ _. calm)
 
--- a put keeps what its parts keep: ask, mark, clear, forward, a new stage, and the two endings
-module _ (P : Reaction → Type 0) (asks : (s : Status) (r : Reaction) → P r → P (ask s r))
-    (marks : (r : Reaction) → P r → P (mark r)) (clears : (s : Status) (r : Reaction) → P r → P (clear s r))
-    (forwards : (r : Reaction) → P r → P (forward r))
-    (turns : (next : ℕ) (r : Reaction) → P r → P (changed r (r .envelope) (withStage next (r .process))))
-    (over : (o : Outcome) (r : Reaction) → (o ≡ Sent) ⊎ (o ≡ Got) → P r → P (ends o r)) where
-  pass-for-keeps : (s : Status) (r : Reaction) → P r → P (passFor s r)
-  unfolding passFor
-  pass-for-keeps s r h = choice P (for (r .process .asked) s) (ask s r) r (asks s r h) h
+-- the event by its code, which each way may know
+pub by-code : (P : ℕ → Reaction → Type 0) (m : ℕ) (e : Envelope) (p : Process) → P 0 (startPut m e p)
+    → P 1 (startGet e p) → P 2 (work e p) → P 3 (signal e p) → P 4 (receive e p) → P 5 (hear full e p)
+    → P 6 (hear empty e p) → P 7 (put e p) → ((code : ℕ) → P code (idle e p))
+    → (code : ℕ) → P code (react code m e p)
+unfolding react
+by-code P m e p starts-put starts-get works signals receives hears-full hears-empty puts nothing code =
+    by-test (P code) (eqb code 0) _ _ (known 0 _ starts-put)
+    (λ _. by-test (P code) (eqb code 1) _ _ (known 1 _ starts-get)
+    (λ _. by-test (P code) (eqb code 2) _ _ (known 2 _ works)
+    (λ _. by-test (P code) (eqb code 3) _ _ (known 3 _ signals)
+    (λ _. by-test (P code) (eqb code 4) _ _ (known 4 _ receives)
+    (λ _. by-test (P code) (eqb code 5) _ _ (known 5 _ hears-full)
+    (λ _. by-test (P code) (eqb code 6) _ _ (known 6 _ hears-empty)
+    (λ _. by-test (P code) (eqb code 7) _ _ (known 7 _ puts) (λ _. nothing code))))))))
+  where
+    known : (k : ℕ) (r : Reaction) → P k r → eqb code k ≡ true → P code r
+    known k r h found = subst (λ (n : ℕ). P n r) (sym (eqb-true code k found)) h
 
-  pass-keeps : (r : Reaction) → P r → P (pass r)
-  unfolding pass
-  pass-keeps r h = pass-for-keeps empty (passFor full r) (pass-for-keeps full r h)
-
-  stroll-keeps : (r : Reaction) → P r → P (stroll r)
-  unfolding stroll
-  stroll-keeps r h = choice P (r .process .have) (forward r) (pass r) (forwards r h) (pass-keeps r h)
-
-  wait-keeps : (s : Status) (next : ℕ) (r : Reaction) → P r → P (wait s next r)
-  unfolding wait
-  wait-keeps s next r h =
-      let on = changed r (r .envelope) (withStage next (r .process)) in
-      let right-one = Bool·beq (r .envelope .full) s in
-      choice P (r .process .have) (cond right-one on (forward (mark r))) (pass (ask s r))
-      (choice P right-one on (forward (mark r)) (turns next r h) (forwards (mark r) (marks r h)))
-      (pass-keeps (ask s r) (asks s r h))
-
-  end-put-keeps : (r : Reaction) → P r → P (endPut r)
-  unfolding endPut
-  end-put-keeps r h = choice P (r .leaves) (ends Sent r) r (over Sent r (inl refl) h) h
-
-  pub put-keeps : (stage : ℕ) (r : Reaction) → P r → P (putAt stage r)
-  put-keeps stage r h =
-      every-stage P stage r (stroll-keeps r h) (wait-keeps empty 3 r h) (wait-keeps full 8 r h)
-      (end-put-keeps (forward (clear empty r)) (forwards (clear empty r) (clears empty r h)))
-      (over Got (forward (clear full r)) (inr refl) (forwards (clear full r) (clears full r h))) h
-
--- the event, whatever its code
+-- and where none need
 pub every-code : (P : Reaction → Type 0) (code m : ℕ) (e : Envelope) (p : Process) → P (startPut m e p)
     → P (startGet e p) → P (work e p) → P (signal e p) → P (receive e p) → ((s : Status) → P (hear s e p)) → P (put e p)
     → P (idle e p)
     → P (react code m e p)
-unfolding react
 every-code P code m e p starts-put starts-get works signals receives hears puts nothing =
-    let from-7 = cond (eqb code 7) (put e p) (idle e p) in
-    let from-6 = cond (eqb code 6) (hear empty e p) from-7 in
-    let from-5 = cond (eqb code 5) (hear full e p) from-6 in
-    let from-4 = cond (eqb code 4) (receive e p) from-5 in
-    let from-3 = cond (eqb code 3) (signal e p) from-4 in
-    let from-2 = cond (eqb code 2) (work e p) from-3 in
-    let from-1 = cond (eqb code 1) (startGet e p) from-2 in
-    choice P (eqb code 0) (startPut m e p) from-1 starts-put
-    (choice P (eqb code 1) (startGet e p) from-2 starts-get
-    (choice P (eqb code 2) (work e p) from-3 works
-    (choice P (eqb code 3) (signal e p) from-4 signals
-    (choice P (eqb code 4) (receive e p) from-5 receives
-    (choice P (eqb code 5) (hear full e p) from-6 (hears full)
-    (choice P (eqb code 6) (hear empty e p) from-7 (hears empty)
-    (choice P (eqb code 7) (put e p) (idle e p) puts nothing)))))))
+    by-code (λ (_ : ℕ). P) m e p starts-put starts-get works signals receives (hears full) (hears empty) puts
+    (λ _. nothing) code

@@ -10,6 +10,7 @@ pub mod Fresh
 pub mod Events
 pub mod Stopped
 pub mod Run
+pub mod Balance
 pub mod Tape
 pub mod Refusals
 pub mod Answers

@@ -37,3 +37,11 @@ withFull stage = eqb stage 4 || eqb stage 5 || eqb stage 8
 -- a mark for s stands only here: for full in 7 to 10, for empty in 2 to 5
 abbrev pub markable : Status → ℕ → Bool
 markable s = cond s (within 7 10) (within 2 5)
+
+-- a put that has started and not ended
+abbrev pub sending : ℕ → Bool
+sending = within 1 5
+
+-- a get that has started and not ended
+abbrev pub receiving : ℕ → Bool
+receiving = within 6 10

@@ -25,8 +25,8 @@ use Rattle.machine.proofs.Rewrite.{read-in-range}
 use Rattle.machine.proofs.Refusals.{image-fine}
 use Rattle.machine.proofs.Ring.{left-below, right-below, left-other, right-other}
 use Rattle.machine.proofs.Stored.{length-state, store-process}
-use Rattle.machine.proofs.Idle.{no-arrival, unchanged}
-use Rattle.machine.proofs.Placed.{length-change}
+use Rattle.machine.proofs.Around.{no-arrival, length-change}
+use Rattle.machine.proofs.Idle.{unchanged}
 use Rattle.place.specs.Placed.{requestedIn, arrivedIn, placedIn}
 
 -- ---- one neighbour
