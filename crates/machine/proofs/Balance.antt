@@ -8,8 +8,8 @@ pub mod Rest
 pub mod Claimed
 pub mod HasAsked
 pub mod Handed
-pub mod Counting
-pub mod Ringed
+pub mod Counted
+pub mod OnRing
 pub mod Kept
 pub mod Walk
 pub mod Still

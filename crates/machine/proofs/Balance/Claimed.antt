@@ -14,7 +14,7 @@ use Rattle.machine.specs.declared.Reaction.{Reaction}
 use Rattle.machine.specs.declared.Outcome.the-variants.{Got}
 use Rattle.machine.specs.Fields.{Status, full, empty, for, either, count, withCount}
 use Rattle.machine.specs.Stages.{told}
-use Rattle.machine.specs.Events.{ask, pass, markFor, mark, unmark, clear, positive, wanted, leave}
+use Rattle.machine.specs.Events.{idle, ask, pass, markFor, mark, unmark, clear, positive, wanted, leave}
 use Rattle.machine.specs.Events.{heeding, forward, ends, stroll, wait, endPut}
 use Rattle.machine.specs.Events.{startPut, startGet, work, signal, receive, hear, put, react}
 use Rattle.machine.proofs.Lists.{and-first, or-second}
@@ -34,11 +34,15 @@ Claims e p r =
     unclaimed (r .envelope) ≡ true → filled (r .process .stage) ≡ false
     → (unclaimed e ≡ true) × (filled (p .stage) ≡ false)
 
--- ---- parts that lower nothing
+-- an event that changes neither
+unmoved : (e : Envelope) (p : Process) → Claims e p (idle e p)
+unmoved e p claim outside = (claim, outside)
 
--- unclaimed after a part, so before it
-abbrev Lowers : Envelope → Envelope → Type 0
-Lowers old new = unclaimed new ≡ true → unclaimed old ≡ true
+-- ---- parts that lower no marker and no count
+
+-- what was claimed stays so: unclaimed after a part, unclaimed before it
+abbrev StaysWanted : Envelope → Envelope → Type 0
+StaysWanted old new = unclaimed new ≡ true → unclaimed old ≡ true
 
 -- what is full and not wanted, and was no less wanted
 less-wanted : (status a b : Bool) → (a ≡ false → b ≡ false) → status && not a ≡ true → status && not b ≡ true
@@ -64,20 +68,20 @@ heed-wanted m a c t off = fewer (for m t) (for a t) c (ap (λ (b : Bool). b || c
     fewer false true z off = absurd (true≢false off)
     fewer false false z off = off
 
-mark-lowers : (r : Reaction) → Lowers (r .envelope) (mark r .envelope)
+mark-stays : (r : Reaction) → StaysWanted (r .envelope) (mark r .envelope)
 unfolding mark markFor wanted
-mark-lowers r =
+mark-stays r =
     let marked = for (r .process .mark) (not (r .envelope .full)) in
-    by-test (λ (t : Reaction). Lowers (r .envelope) (t .envelope)) marked _ _ (λ _ off. off)
+    by-test (λ (t : Reaction). StaysWanted (r .envelope) (t .envelope)) marked _ _ (λ _ off. off)
     (λ _. less-wanted (r .envelope .full) _ _
     (mark-wanted (r .envelope .marker) (r .envelope .marked) (not (r .envelope .full)) (r .envelope .full)))
 
-forward-lowers : (r : Reaction) → Lowers (r .envelope) (forward r .envelope)
+forward-stays : (r : Reaction) → StaysWanted (r .envelope) (forward r .envelope)
 unfolding forward heeding leave wanted
-forward-lowers r =
-    choice (λ (t : Reaction). Lowers (r .envelope) (t .envelope)) (wanted (heeding r .envelope)) _ _ fewer fewer
+forward-stays r =
+    choice (λ (t : Reaction). StaysWanted (r .envelope) (t .envelope)) (wanted (heeding r .envelope)) _ _ fewer fewer
   where
-    fewer : Lowers (r .envelope) (heeding r .envelope)
+    fewer : StaysWanted (r .envelope) (heeding r .envelope)
     fewer = less-wanted (r .envelope .full) _ _ (heed-wanted (r .envelope .marker) _ _ (r .envelope .full))
 
 -- where a forward lets it leave, it is wanted
@@ -117,14 +121,14 @@ module _ (e : Envelope) (p : Process) (fits : Fits e p) where
   start-owed = begun-owed e p (fits .marked)
 
   -- where the stage stays and nothing is lowered
-  same-stage : (r : Reaction) → r .process .stage ≡ p .stage → Lowers e (r .envelope) → Claims e p r
-  same-stage r same lowers claim outside = (lowers claim, ap filled (sym same) ∙ outside)
+  same-stage : (r : Reaction) → r .process .stage ≡ p .stage → StaysWanted e (r .envelope) → Claims e p r
+  same-stage r same stays claim outside = (stays claim, ap filled (sym same) ∙ outside)
 
   stroll-claims : Claims e p (stroll start)
   unfolding stroll
   stroll-claims =
       by-test (Claims e p) (p .have) _ _
-      (λ had. same-stage (forward start) (forward-owed e p start had start-owed .stage-same) (forward-lowers start))
+      (λ had. same-stage (forward start) (forward-owed e p start had start-owed .stage-same) (forward-stays start))
       (λ _. same-stage (pass start) (pass-owed e p start start-owed .stage-same)
       (λ claim. sym (ap unclaimed (pass-alone start)) ∙ claim))
 
@@ -137,7 +141,7 @@ module _ (e : Envelope) (p : Process) (fits : Fits e p) where
       (λ differs.
       let m = mark-waiting e p fits s here (other-status (e .full) s differs) in
       same-stage (forward (mark start)) (forward-owed e p (mark start) had m .stage-same)
-      (λ claim. mark-lowers start (forward-lowers (mark start) claim))))
+      (λ claim. mark-stays start (forward-stays (mark start) claim))))
       (λ _. same-stage (pass (ask s start)) (pass-owed e p (ask s start) (ask-owed e p s start start-owed) .stage-same)
       (λ claim. sym (ap unclaimed (ask-pass-alone s start)) ∙ claim))
     where
@@ -185,9 +189,8 @@ module _ (e : Envelope) (p : Process) (fits : Fits e p) where
     put-claims =
         by-test (Claims e p) (p .news) _ _
         (λ _. by-stage (Claims e p) (p .stage) start (λ _. stroll-claims) (wait-claims empty) (wait-claims full)
-        send-claims get-claims
-        (λ _ claim outside. (claim, outside)))
-        (λ _ claim outside. (claim, outside))
+        send-claims get-claims (λ _. unmoved e p))
+        (λ _. unmoved e p)
 
 -- ---- the other events
 
@@ -201,13 +204,13 @@ module _ (e : Envelope) (p : Process) where
   unfolding startPut
   start-put-claims m =
       by-test (Claims e p) (eqb (p .stage) 0) _ _
-      (λ found claim _. (claim, ap filled (eqb-true (p .stage) 0 found))) (λ _ claim outside. (claim, outside))
+      (λ found claim _. (claim, ap filled (eqb-true (p .stage) 0 found))) (λ _. unmoved e p)
 
   start-get-claims : Claims e p (startGet e p)
   unfolding startGet
   start-get-claims =
       by-test (Claims e p) (eqb (p .stage) 0) _ _
-      (λ found claim _. (claim, ap filled (eqb-true (p .stage) 0 found))) (λ _ claim outside. (claim, outside))
+      (λ found claim _. (claim, ap filled (eqb-true (p .stage) 0 found))) (λ _. unmoved e p)
 
   -- a fill comes to stage 4, and a take leaves it empty
   work-claims : Claims e p (work e p)
@@ -215,24 +218,21 @@ module _ (e : Envelope) (p : Process) where
   work-claims =
       by-test (Claims e p) (eqb (p .stage) 3) _ _ (λ _ _ outside. absurd (true≢false outside))
       (λ _. by-test (Claims e p) (eqb (p .stage) 8) _ _ (λ _ claim _. absurd (false≢true claim))
-      (λ _ claim outside. (claim, outside)))
+      (λ _. unmoved e p))
 
   signal-claims : Claims e p (signal e p)
   unfolding signal
   signal-claims =
       by-test (Claims e p) (told (p .stage)) _ _
-      (λ is-told claim outside. (claim, told-filled (p .stage) is-told outside))
-      (λ _ claim outside. (claim, outside))
+      (λ is-told claim outside. (claim, told-filled (p .stage) is-told outside)) (λ _. unmoved e p)
 
   receive-claims : Claims e p (receive e p)
   unfolding receive
-  receive-claims =
-      choice (Claims e p) (p .arriving) _ _ (λ claim outside. (claim, outside)) (λ claim outside. (claim, outside))
+  receive-claims = choice (Claims e p) (p .arriving) _ _ (unmoved e p) (unmoved e p)
 
   hear-claims : (s : Status) → Claims e p (hear s e p)
   unfolding hear
-  hear-claims s =
-      choice (Claims e p) (for (p .link) s) _ _ (λ claim outside. (claim, outside)) (λ claim outside. (claim, outside))
+  hear-claims s = choice (Claims e p) (for (p .link) s) _ _ (unmoved e p) (unmoved e p)
 
 -- any event, by its code
 pub react-claims : (e : Envelope) (p : Process) → Fits e p → ((s : Status) → marksFor s p ≤ count (e .marked) s)
@@ -240,4 +240,4 @@ pub react-claims : (e : Envelope) (p : Process) → Fits e p → ((s : Status) �
 react-claims e p fits own code m =
     every-code (Claims e p) code m e p (start-put-claims e p m) (start-get-claims e p) (work-claims e p)
     (signal-claims e p) (receive-claims e p) (hear-claims e p) (put-claims e p fits own)
-    (λ claim outside. (claim, outside))
+    (unmoved e p)

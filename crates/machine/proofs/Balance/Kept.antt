@@ -33,8 +33,8 @@ use Rattle.machine.proofs.Balance.Rest.{react-rests}
 use Rattle.machine.proofs.Balance.Claimed.{react-claims}
 use Rattle.machine.proofs.Balance.HasAsked.{react-asked}
 use Rattle.machine.proofs.Balance.Handed.{react-awaits, react-keeps-request}
-use Rattle.machine.proofs.Balance.Counting.{StageCounts, react-counts, react-messages}
-use Rattle.machine.proofs.Balance.Ringed.{rests-placed, claimed-placed, asked-placed, handed-placed}
+use Rattle.machine.proofs.Balance.Counted.{StageCounts, react-counts, react-messages}
+use Rattle.machine.proofs.Balance.OnRing.{rests-placed, claimed-placed, asked-placed, handed-placed}
 
 -- ---- E. The counts, with one event more
 
