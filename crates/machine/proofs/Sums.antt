@@ -5,7 +5,7 @@ use Prim.Native.Nat.{ℕ, zero, suc, _+_, _*_, _/_, _%_, _≤_, _<_}
 use mathlib.Core.Path.{_≡_, refl, sym, ap, ap₂, _∙_, subst}
 use mathlib.Core.Bool.{true, false}
 use mathlib.Core.List.{List, [], _∷_}
-use mathlib.Core.Logic.{_≢_}
+use mathlib.Core.Logic.{_⊎_, inl, inr, _≢_}
 use native.Mathlib.Omega.{arith}
 use lib.ListN.{length, set, length-set}
 use lib.Seq.{getD-set-other}
@@ -20,6 +20,7 @@ use Rattle.machine.specs.Image.{State, sizeIn, stateIn}
 use Rattle.machine.specs.Sound.{places, markedSet}
 use Rattle.machine.specs.Events.{processAt}
 use Rattle.machine.specs.Refusals.{imageVerdict}
+use Rattle.machine.proofs.Bytes.{lt-or-ge}
 use Rattle.machine.proofs.Bits.{bit-le}
 use Rattle.machine.proofs.Sound.{RestFacts, sound-facts}
 use Rattle.machine.proofs.Stored.{length-state}
@@ -56,6 +57,36 @@ two-le w none l i j hi hj apart =
     let other : w (processAt rest j) ≤ sum w rest = part-le w rest j (omega (arith, length-set l i blank)) in
     let moved : w (processAt l j) ≤ sum w rest = subst (λ (p : Process). w p ≤ sum w rest) same other in
     omega (arith, sum-set w l i blank hi)
+
+-- a record that has something by w
+abbrev pub Part : (Process → ℕ) → List Process → Type 0
+Part w l = (i : ℕ) × (i < length l) × (1 ≤ w (processAt l i))
+
+-- where a sum is positive, there is one
+pub some-part : (w : Process → ℕ) (l : List Process) → 1 ≤ sum w l → Part w l
+unfolding sum
+some-part w [] positive = absurd (omega arith)
+some-part w (p ∷ l) positive = go (lt-or-ge 0 (w p)) (some-part w l)
+  where
+    go : (0 < w p) ⊎ (w p ≤ 0) → (1 ≤ sum w l → Part w l) → Part w (p ∷ l)
+    go (inl first) later = (zero, omega arith, omega arith)
+    go (inr none) later =
+        let found = later (omega arith) in
+        (suc (found .0), omega (arith, found .1), found .2)
+
+-- where each record has at most as much by w as by u, so have all together
+pub parts-le : (w u : Process → ℕ) (l : List Process)
+    → ((i : ℕ) → i < length l → w (processAt l i) ≤ u (processAt l i))
+    → sum w l ≤ sum u l
+unfolding sum
+parts-le w u [] each = lit≤ tt
+parts-le w u (p ∷ l) each = omega (arith, each 0 (omega arith), parts-le w u l (λ i h. each (suc i) (omega arith)))
+
+-- where none has anything by w, nor have all together
+pub parts-none : (w : Process → ℕ) (l : List Process) → ((i : ℕ) → i < length l → w (processAt l i) ≡ 0) → sum w l ≡ 0
+unfolding sum
+parts-none w [] each = refl
+parts-none w (p ∷ l) each = omega (arith, each 0 (omega arith), parts-none w l (λ i h. each (suc i) (omega arith)))
 
 -- where each record has at most 1, the sum is at most the number of the records
 sum-le : (w : Process → ℕ) → ((p : Process) → w p ≤ 1) → (l : List Process) → sum w l ≤ length l

@@ -18,12 +18,12 @@ use Rattle.machine.specs.Events.{positive, wanted, processAt}
 use Rattle.machine.specs.Stopped.{quiet, stopped, Stopped}
 use Rattle.machine.specs.Balance.{Totals, ownMessage}
 use Rattle.machine.proofs.Lists.{or-second, all-at}
-use Rattle.machine.proofs.Sums.{sum, flagsSet, mark-counted}
+use Rattle.machine.proofs.Sums.{sum, some-part, parts-le, parts-none, flagsSet, mark-counted}
 use Rattle.machine.proofs.Facts.{fits-at}
 use Rattle.machine.proofs.Stopped.{means-stopped, quiet-nothing}
 use Rattle.machine.proofs.Ring.{left-below}
 use Rattle.machine.proofs.Balance.Clauses.{filled, emptied, number, Rests, Invariant, one-flag}
-use Rattle.machine.proofs.Balance.Walk.{some-part, parts-le, parts-none, round}
+use Rattle.machine.proofs.Balance.Walk.{round}
 use Rattle.machine.proofs.Balance.Still.{refuted, Still, nothing-still, filled-rests}
 use Rattle.machine.proofs.Balance.Still.{rests-on, served, Unserved, rests-unserved}
 

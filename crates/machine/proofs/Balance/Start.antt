@@ -15,9 +15,9 @@ use Rattle.machine.specs.Events.{wanted, processAt}
 use Rattle.machine.specs.Run.{noCounts}
 use Rattle.machine.specs.Balance.{totalsOf}
 use Rattle.machine.proofs.Fresh.{fresh-fits, length-fresh}
+use Rattle.machine.proofs.Sums.{parts-none}
 use Rattle.machine.proofs.Facts.{state-facts}
 use Rattle.machine.proofs.Balance.Clauses.{filled, emptied, number, AtRest, HasAsked, awaits, Invariant}
-use Rattle.machine.proofs.Balance.Walk.{parts-none}
 
 -- ---- a record of the fresh ring
 
