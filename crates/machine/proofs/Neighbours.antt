@@ -13,10 +13,10 @@ use Rattle.machine.specs.declared.Reaction.{Reaction}
 use Rattle.machine.specs.declared.Outcome.the-variants.{Moved}
 use Rattle.machine.specs.Fields.{Status, full, empty, none, for, withNews, withStage}
 use Rattle.machine.specs.Stages.{told}
-use Rattle.machine.specs.Events.{becomes, changed, idle, ask, passFor, pass, markFor, mark, unmark, clear, wanted}
+use Rattle.machine.specs.Events.{becomes, changed, idle, ask, pass, markFor, mark, unmark, clear, wanted}
 use Rattle.machine.specs.Events.{leave, heeding, forward, ends, stroll, wait, endPut, putAt}
 use Rattle.machine.specs.Events.{startPut, startGet, work, signal, receive, hear, put, react}
-use Rattle.machine.proofs.Ways.{by-test, choice, every-stage, every-code}
+use Rattle.machine.proofs.Ways.{by-test, choice, pass-keeps, every-stage, every-code}
 
 -- a choice between two that agree in something
 alike : {A : Type 0} (f : Reaction → A) (b : Bool) (x y : Reaction) {a : A} → f x ≡ a → f y ≡ a → f (cond b x y) ≡ a
@@ -35,13 +35,8 @@ ask-leaves : (s : Status) (r : Reaction) → ask s r .leaves ≡ r .leaves
 unfolding ask
 ask-leaves s r = alike leavesOf (for (r .process .itself) s) r _ refl refl
 
-pass-for-leaves : (s : Status) (r : Reaction) → passFor s r .leaves ≡ r .leaves
-unfolding passFor
-pass-for-leaves s r = alike leavesOf (for (r .process .asked) s) (ask s r) r (ask-leaves s r) refl
-
 pass-leaves : (r : Reaction) → pass r .leaves ≡ r .leaves
-unfolding pass
-pass-leaves r = pass-for-leaves empty (passFor full r) ∙ pass-for-leaves full r
+pass-leaves r = pass-keeps (λ (t : Reaction). t .leaves ≡ r .leaves) (λ s t same. ask-leaves s t ∙ same) r refl
 
 -- ---- parts that let it leave ask nothing
 

@@ -14,10 +14,10 @@ use Rattle.machine.specs.declared.Outcome.the-variants.{Moved}
 use Rattle.machine.specs.Bytes.{bit}
 use Rattle.machine.specs.Fields.{Status, full, empty, for, with, count, withCount, withNews, withMark, withMarked}
 use Rattle.machine.specs.Stages.{markable}
-use Rattle.machine.specs.Events.{becomes, changed, ask, passFor, pass, markFor, unmark, clear, wanted, leave}
+use Rattle.machine.specs.Events.{becomes, changed, ask, pass, markFor, unmark, clear, wanted, leave}
 use Rattle.machine.specs.Events.{heeding}
 use Rattle.machine.specs.Events.{forward}
-use Rattle.machine.proofs.Ways.{by-test}
+use Rattle.machine.proofs.Ways.{by-test, pass-keeps}
 use Rattle.machine.proofs.Sums.{marksFor}
 
 -- ---- a mark set or taken away, with its count
@@ -122,13 +122,8 @@ module _ (e : Envelope) (p : Process) where
   unfolding ask
   ask-owed s r o = by-test (Owed e p) (for (r .process .itself) s) _ _ (λ _. o) (λ _. o)
 
-  pass-for-owed : (s : Status) (r : Reaction) → Owed e p r → Owed e p (passFor s r)
-  unfolding passFor
-  pass-for-owed s r o = by-test (Owed e p) (for (r .process .asked) s) _ _ (λ _. ask-owed s r o) (λ _. o)
-
   pub pass-owed : (r : Reaction) → Owed e p r → Owed e p (pass r)
-  unfolding pass
-  pass-owed r o = pass-for-owed empty (passFor full r) (pass-for-owed full r o)
+  pass-owed = pass-keeps (Owed e p) ask-owed
 
   pub mark-owed : (s : Status) (r : Reaction) → markable s (r .process .stage) ≡ true → Owed e p r
       → Owed e p (markFor s r)

@@ -1,5 +1,5 @@
--- A put keeps what its parts keep: what holds of the reaction so far, and is kept by each of ask, mark, clear, forward, a
--- new stage and the two endings, holds of the whole put. Assumes nothing.
+-- A put keeps what its parts keep: what holds of the reaction so far, and is kept by each of ask, mark, clear, forward,
+-- a new stage and the two endings, holds of the whole put. Assumes nothing.
 use Prim.Native.Nat.{ℕ}
 use mathlib.Core.Path.{_≡_, refl}
 use mathlib.Core.Bool.{cond, Bool·beq}
@@ -7,27 +7,19 @@ use mathlib.Core.Logic.{_⊎_, inl, inr}
 use Rattle.machine.specs.declared.Reaction.{Reaction}
 use Rattle.machine.specs.declared.Outcome.{Outcome}
 use Rattle.machine.specs.declared.Outcome.the-variants.{Sent, Got}
-use Rattle.machine.specs.Fields.{Status, full, empty, for, withStage}
-use Rattle.machine.specs.Events.{changed, ask, passFor, pass, mark, clear, forward, ends, stroll, wait}
+use Rattle.machine.specs.Fields.{Status, full, empty, withStage}
+use Rattle.machine.specs.Events.{changed, ask, pass, mark, clear, forward, ends, stroll, wait}
 use Rattle.machine.specs.Events.{endPut, putAt}
-use Rattle.machine.proofs.Ways.{choice, every-stage}
+use Rattle.machine.proofs.Ways.{choice, pass-keeps, every-stage}
 
 module _ (P : Reaction → Type 0) (asks : (s : Status) (r : Reaction) → P r → P (ask s r))
     (marks : (r : Reaction) → P r → P (mark r)) (clears : (s : Status) (r : Reaction) → P r → P (clear s r))
     (forwards : (r : Reaction) → P r → P (forward r))
     (turns : (next : ℕ) (r : Reaction) → P r → P (changed r (r .envelope) (withStage next (r .process))))
     (over : (o : Outcome) (r : Reaction) → (o ≡ Sent) ⊎ (o ≡ Got) → P r → P (ends o r)) where
-  pass-for-keeps : (s : Status) (r : Reaction) → P r → P (passFor s r)
-  unfolding passFor
-  pass-for-keeps s r h = choice P (for (r .process .asked) s) (ask s r) r (asks s r h) h
-
-  pass-keeps : (r : Reaction) → P r → P (pass r)
-  unfolding pass
-  pass-keeps r h = pass-for-keeps empty (passFor full r) (pass-for-keeps full r h)
-
   stroll-keeps : (r : Reaction) → P r → P (stroll r)
   unfolding stroll
-  stroll-keeps r h = choice P (r .process .have) (forward r) (pass r) (forwards r h) (pass-keeps r h)
+  stroll-keeps r h = choice P (r .process .have) (forward r) (pass r) (forwards r h) (pass-keeps P asks r h)
 
   wait-keeps : (s : Status) (next : ℕ) (r : Reaction) → P r → P (wait s next r)
   unfolding wait
@@ -36,7 +28,7 @@ module _ (P : Reaction → Type 0) (asks : (s : Status) (r : Reaction) → P r �
       let right-one = Bool·beq (r .envelope .full) s in
       choice P (r .process .have) (cond right-one on (forward (mark r))) (pass (ask s r))
       (choice P right-one on (forward (mark r)) (turns next r h) (forwards (mark r) (marks r h)))
-      (pass-keeps (ask s r) (asks s r h))
+      (pass-keeps P asks (ask s r) (asks s r h))
 
   end-put-keeps : (r : Reaction) → P r → P (endPut r)
   unfolding endPut

@@ -14,11 +14,12 @@ use Rattle.machine.specs.Stages.{plain, markable}
 use Rattle.machine.specs.Events.{ask, pass, mark, clear, forward, ends, stroll, wait, endPut, put}
 use Rattle.machine.proofs.Sums.{marksFor}
 use Rattle.machine.proofs.Ways.{by-test, by-stage}
-use Rattle.machine.proofs.Owed.{Owed, begun, begun-owed, ask-owed, pass-owed, mark-owed, forward-owed}
+use Rattle.machine.proofs.Owed.{Owed, begun, begun-owed, ask-owed, pass-owed, forward-owed}
 use Rattle.machine.proofs.Owed.{clear-owed}
 use Rattle.machine.proofs.Owed.{forward-mark, clear-mark}
 use Rattle.machine.proofs.Settled.{FitsOf, Fits, Settled, needs, plain-free, marks-follow, at-stage, still}
-use Rattle.machine.proofs.Settled.{had-at, settle, settle-end, other-status, same-status}
+use Rattle.machine.proofs.Settled.{waitsFor, waiting-free, mark-waiting, had-at, settle, settle-end}
+use Rattle.machine.proofs.Settled.{other-status, same-status}
 
 -- a mark that may not stand does not
 no-mark : (m a : Bool) → a ≡ false → not m || a ≡ true → m ≡ false
@@ -42,20 +43,19 @@ module _ (e : Envelope) (p : Process) (fits : Fits e p) where
       (λ had. settle e p fits (forward start) (forward-owed e p start had start-owed) (λ _. free))
       (λ _. settle e p fits (pass start) (pass-owed e p start start-owed) (λ _. free))
 
-  -- stages 2 and 7: where stage k waits for s
-  wait-settled : (s : Status) (k next : ℕ) → p .stage ≡ k → needs k ≡ false → markable s k ≡ true
+  -- stages 2 and 7, waiting for s
+  wait-settled : (s : Status) (next : ℕ) → p .stage ≡ waitsFor s
       → (p .have ≡ true → e .full ≡ s → FitsOf (e .full) (e .message) next (p .have) (p .mark) (p .note))
       → Settled e p (wait s next start)
-  unfolding wait mark
-  wait-settled s k next here free may fit =
-      let free-here : needs (p .stage) ≡ false = ap needs here ∙ free in
+  unfolding wait
+  wait-settled s next here fit =
+      let free-here : needs (p .stage) ≡ false = ap needs here ∙ waiting-free s in
       by-test (Settled e p) (p .have) _ _
       (λ had. by-test (Settled e p) (Bool·beq (e .full) s) _ _
       (λ same. still e p fits (fit had (same-status (e .full) s same)) (inr refl))
       (λ differs.
-      let may-here : markable (not (e .full)) (p .stage) ≡ true = rw (here, other-status (e .full) s differs) may in
-      settle e p fits (forward (mark start))
-      (forward-owed e p (mark start) had (mark-owed e p (not (e .full)) start may-here start-owed)) (λ _. free-here)))
+      let m = mark-waiting e p fits s here (other-status (e .full) s differs) in
+      settle e p fits (forward (mark start)) (forward-owed e p (mark start) had m) (λ _. free-here)))
       (λ _. settle e p fits (pass (ask s start)) (pass-owed e p (ask s start) (ask-owed e p s start start-owed))
       (λ _. free-here))
 
@@ -98,7 +98,7 @@ module _ (e : Envelope) (p : Process) (fits : Fits e p) where
         (λ _. by-stage (Settled e p) (p .stage) start stroll-settled
         (λ here.
         let f = at-stage e p fits 2 here in
-        wait-settled empty 2 3 here refl refl
+        wait-settled empty 3 here
         (λ had same. record {
           envelope = f .envelope;
           range = refl;
@@ -108,7 +108,7 @@ module _ (e : Envelope) (p : Process) (fits : Fits e p) where
         }))
         (λ here.
         let f = at-stage e p fits 7 here in
-        wait-settled full 7 8 here refl refl
+        wait-settled full 8 here
         (λ had same. record {
           envelope = f .envelope;
           range = refl;

@@ -17,10 +17,10 @@ use Rattle.machine.specs.declared.Reaction.{Reaction}
 use Rattle.machine.specs.Bytes.{bit}
 use Rattle.machine.specs.Fields.{Status, full, empty, for, count, holding, processOf}
 use Rattle.machine.specs.Stages.{lastStage, plain, told, noted, withEmpty, withFull, markable}
-use Rattle.machine.specs.Events.{becomes, ends}
+use Rattle.machine.specs.Events.{becomes, mark, ends}
 use Rattle.machine.proofs.Lists.{and-first, and-second, follow}
 use Rattle.machine.proofs.Sums.{flagsSet, marksFor}
-use Rattle.machine.proofs.Owed.{Owed}
+use Rattle.machine.proofs.Owed.{Owed, begun, begun-owed, mark-owed}
 
 -- ---- what fits at one process
 
@@ -68,6 +68,20 @@ same-status false false e = refl
 -- a stage that needs the envelope
 abbrev pub needs : ℕ → Bool
 needs stage = withEmpty stage || withFull stage
+
+-- the stage that waits for s: 7 for full, 2 for empty
+abbrev pub waitsFor : Status → ℕ
+waitsFor s = cond s 7 2
+
+-- it doesn't need the envelope
+pub waiting-free : (s : Status) → needs (waitsFor s) ≡ false
+waiting-free true = refl
+waiting-free false = refl
+
+-- and may be marked for what it waits for
+waiting-markable : (s : Status) → markable s (waitsFor s) ≡ true
+waiting-markable true = refl
+waiting-markable false = refl
 
 -- what holds at one stage holds where a test finds it
 found-at : (P : ℕ → Type 0) (k : ℕ) → P k → (stage : ℕ) → eqb stage k ≡ true → P stage
@@ -153,6 +167,13 @@ module _ (e : Envelope) (p : Process) (fits : Fits e p) where
   pub had-at : (k : ℕ) → p .stage ≡ k → needs k ≡ true → p .have ≡ true
   had-at k here needed =
       needs-had (withEmpty (p .stage)) (withFull (p .stage)) (p .have) (e .full) (fits .has) (rw here needed)
+
+  -- a process that waits for the status opposite to the present one marks for it
+  pub mark-waiting : (s : Status) → p .stage ≡ waitsFor s → not (e .full) ≡ s → Owed e p (mark (begun e p))
+  unfolding mark
+  mark-waiting s here other =
+      let may : markable (not (e .full)) (p .stage) ≡ true = rw (here, other) (waiting-markable s) in
+      mark-owed e p (not (e .full)) (begun e p) may (begun-owed e p (fits .marked))
 
   -- an event that touches no flag of the envelope's place and no mark
   pub still : {o : Outcome} {status : Status} {message stage : ℕ} {news : Bool} {asked link : Pair} {note : ℕ}

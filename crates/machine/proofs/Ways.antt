@@ -9,9 +9,9 @@ use Rattle.machine.specs.declared.Envelope.{Envelope}
 use Rattle.machine.specs.declared.Process.{Process}
 use Rattle.machine.specs.declared.Reaction.{Reaction}
 use Rattle.machine.specs.declared.Outcome.the-variants.{Got}
-use Rattle.machine.specs.Fields.{Status, full, empty}
+use Rattle.machine.specs.Fields.{Status, full, empty, for}
 use Rattle.machine.specs.Stages.{plain}
-use Rattle.machine.specs.Events.{idle, clear, forward, ends, stroll, wait}
+use Rattle.machine.specs.Events.{ask, passFor, pass, idle, clear, forward, ends, stroll, wait}
 use Rattle.machine.specs.Events.{endPut, putAt}
 use Rattle.machine.specs.Events.{startPut, startGet, work, signal, receive, hear, put, react}
 
@@ -25,6 +25,16 @@ by-test P false x y if-so if-not = if-not refl
 pub choice : {A : Type 0} (P : A → Type 0) (b : Bool) (x y : A) → P x → P y → P (cond b x y)
 choice P true x y hx hy = hx
 choice P false x y hx hy = hy
+
+-- passing requests keeps what asking keeps
+module _ (P : Reaction → Type 0) (asks : (s : Status) (r : Reaction) → P r → P (ask s r)) where
+  pub pass-for-keeps : (s : Status) (r : Reaction) → P r → P (passFor s r)
+  unfolding passFor
+  pass-for-keeps s r h = choice P (for (r .process .asked) s) (ask s r) r (asks s r h) h
+
+  pub pass-keeps : (r : Reaction) → P r → P (pass r)
+  unfolding pass
+  pass-keeps r h = pass-for-keeps empty (passFor full r) (pass-for-keeps full r h)
 
 -- the stages at which a put does more than clear its news
 abbrev pub moving : ℕ → Bool

@@ -21,10 +21,10 @@ use Rattle.machine.proofs.Lists.{and-first, or-second}
 use Rattle.machine.proofs.Ways.{by-test, choice, by-stage, every-code}
 use Rattle.machine.proofs.Sums.{marksFor}
 use Rattle.machine.proofs.Owed.{Owed, begun, begun-owed, ask-owed, pass-owed, forward-owed, clear-owed}
-use Rattle.machine.proofs.Settled.{Fits, told-each, at-stage, had-at, other-status}
-use Rattle.machine.proofs.Balance.Clauses.{waitsFor, filled, unclaimed}
+use Rattle.machine.proofs.Settled.{Fits, told-each, at-stage, had-at, other-status, waitsFor, mark-waiting}
+use Rattle.machine.proofs.Balance.Clauses.{filled, unclaimed}
 use Rattle.machine.proofs.Balance.Pairs.{either-for}
-use Rattle.machine.proofs.Balance.Stages.{mayFor, mark-waiting}
+use Rattle.machine.proofs.Balance.Stages.{mayFor}
 use Rattle.machine.proofs.Balance.Header.{pass-alone, ask-pass-alone}
 
 -- what an event owes: if the envelope is unclaimed after it and its process isn't among those that filled it, both

@@ -3,7 +3,7 @@
 -- Assumes nothing.
 use Prim.Native.Nat.{ℕ, _+_, _≤_, _<_}
 use mathlib.Core.Path.{_≡_, sym, _∙_}
-use mathlib.Core.Bool.{Bool, true, false, not, cond, _&&_, _||_}
+use mathlib.Core.Bool.{Bool, true, false, not, _&&_, _||_}
 use mathlib.Core.List.{List, _++_}
 use lib.ListN.{length}
 use lib.Dec.{eqb}
@@ -17,13 +17,10 @@ use Rattle.machine.specs.Stages.{within, sending, receiving}
 use Rattle.machine.specs.Events.{wanted, processAt}
 use Rattle.machine.specs.Balance.{Totals, ownMessage}
 use Rattle.machine.proofs.Sums.{sum, flagsSet, places-sum}
+use Rattle.machine.proofs.Settled.{waitsFor}
 use Rattle.machine.proofs.Facts.{StateFacts}
 
 -- ---- stages
-
--- the stage that waits for s: 7 for full, 2 for empty
-abbrev pub waitsFor : Status → ℕ
-waitsFor s = cond s 7 2
 
 -- stages that no event but a put moves on: 0, 2, 5, 7, 10
 abbrev pub restful : ℕ → Bool

@@ -19,11 +19,11 @@ use Rattle.machine.specs.Fields.{Status, full, empty, for}
 use Rattle.machine.specs.Stages.{told, sending, receiving}
 use Rattle.machine.specs.Run.{outcomeNumber}
 use Rattle.machine.specs.Balance.{filledBy, takenBy, ownMessage}
-use Rattle.machine.specs.Events.{idle, ask, passFor, pass, markFor, mark, unmark, clear, wanted, leave, heeding}
+use Rattle.machine.specs.Events.{idle, ask, pass, markFor, mark, unmark, clear, wanted, leave, heeding}
 use Rattle.machine.specs.Events.{forward, ends, stroll, wait, endPut}
 use Rattle.machine.specs.Events.{startPut, startGet, work, signal, receive, hear, put, react}
 use Rattle.machine.proofs.Lists.{and-first, and-second}
-use Rattle.machine.proofs.Ways.{choice, by-test, by-stage, by-code}
+use Rattle.machine.proofs.Ways.{choice, by-test, pass-keeps, by-stage, by-code}
 use Rattle.machine.proofs.Owed.{begun}
 use Rattle.machine.proofs.Settled.{Fits, told-each, at-stage}
 use Rattle.machine.proofs.Balance.Clauses.{filled, emptied}
@@ -128,14 +128,6 @@ module _ (e : Envelope) (p : Process) (fits : Fits e p) (m : ℕ) where
   unfolding ask
   ask-under s r h = choice Under (for (r .process .itself) s) _ _ h h
 
-  pass-for-under : (s : Status) (r : Reaction) → Under r → Under (passFor s r)
-  unfolding passFor
-  pass-for-under s r h = choice Under (for (r .process .asked) s) _ _ (ask-under s r h) h
-
-  pass-under : (r : Reaction) → Under r → Under (pass r)
-  unfolding pass
-  pass-under r h = pass-for-under empty (passFor full r) (pass-for-under full r h)
-
   mark-under : (r : Reaction) → Under r → Under (mark r)
   unfolding mark markFor
   mark-under r h = choice Under (for (r .process .mark) (not (r .envelope .full))) _ _ h h
@@ -160,7 +152,7 @@ module _ (e : Envelope) (p : Process) (fits : Fits e p) (m : ℕ) where
   unfolding stroll
   strolls =
       choice (Tallies 7) (p .have) _ _ (under (forward (begun e p)) (forward-under (begun e p) begins))
-      (under (pass (begun e p)) (pass-under (begun e p) begins))
+      (under (pass (begun e p)) (pass-keeps Under ask-under (begun e p) begins))
 
   -- where the envelope is as it waits for, it turns to the stage `next`
   waits : (s : Status) (next : ℕ) → StageCounts 7 Moved (p .stage) next → Tallies 7 (wait s next (begun e p))
@@ -169,7 +161,8 @@ module _ (e : Envelope) (p : Process) (fits : Fits e p) (m : ℕ) where
       choice (Tallies 7) (p .have) _ _
       (choice (Tallies 7) (Bool·beq (e .full) s) _ _ (turn, unfilled)
       (under (forward (mark (begun e p))) (forward-under (mark (begun e p)) (mark-under (begun e p) begins))))
-      (under (pass (ask s (begun e p))) (pass-under (ask s (begun e p)) (ask-under s (begun e p) begins)))
+      (under (pass (ask s (begun e p)))
+      (pass-keeps Under ask-under (ask s (begun e p)) (ask-under s (begun e p) begins)))
 
   -- stages 5 and 10 clear and forward
   clears : (s : Status) → Under (forward (clear s (begun e p)))

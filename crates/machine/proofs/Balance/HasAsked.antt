@@ -20,11 +20,11 @@ use Rattle.machine.specs.Events.{ask, passFor, pass, markFor, mark, unma
 use Rattle.machine.specs.Events.{forward, ends, stroll, wait, endPut}
 use Rattle.machine.specs.Events.{startPut, startGet, work, signal, receive, hear, put, react}
 use Rattle.machine.proofs.Lists.{and-first, and-second}
-use Rattle.machine.proofs.Ways.{by-test, moving, by-stage, every-code}
+use Rattle.machine.proofs.Ways.{pass-for-keeps, pass-keeps, by-test, moving, by-stage, every-code}
 use Rattle.machine.proofs.Owed.{begun}
-use Rattle.machine.proofs.Settled.{Fits, either-way, same-status, other-status, needs, had-at}
+use Rattle.machine.proofs.Settled.{Fits, either-way, same-status, other-status, needs, had-at, waitsFor}
 use Rattle.machine.proofs.Balance.Pairs.{none-for, set-on, set-keeps}
-use Rattle.machine.proofs.Balance.Clauses.{waitsFor, HasAsked}
+use Rattle.machine.proofs.Balance.Clauses.{HasAsked}
 use Rattle.machine.proofs.Balance.Stages.{at-stages, waits-same}
 
 -- ---- stages
@@ -70,19 +70,17 @@ module _ (t : Status) (wants : Pair → ℕ → Bool) where
       by-test Meets (for (r .process .itself) s) _ _ (λ _. h) (λ _ w. set-keeps s t (r .process .itself) (h w))
 
   pass-for-meets : (s : Status) (r : Reaction) → Meets r → Meets (passFor s r)
-  unfolding passFor
-  pass-for-meets s r h = by-test Meets (for (r .process .asked) s) _ _ (λ _. ask-meets s r h) (λ _. h)
+  pass-for-meets = pass-for-keeps Meets ask-meets
 
   pass-meets : (r : Reaction) → Meets r → Meets (pass r)
-  unfolding pass
-  pass-meets r h = pass-for-meets empty (passFor full r) (pass-for-meets full r h)
+  pass-meets = pass-keeps Meets ask-meets
 
 -- two wants: what the right asked for, and what the stage waits for
-abbrev heard : Status → Pair → ℕ → Bool
-heard t asked stage = for asked t
+abbrev rightAsked : Status → Pair → ℕ → Bool
+rightAsked t asked stage = for asked t
 
-abbrev bid : Status → Pair → ℕ → Bool
-bid t asked stage = eqb stage (waitsFor t)
+abbrev stageWaits : Status → Pair → ℕ → Bool
+stageWaits t asked stage = eqb stage (waitsFor t)
 
 -- asking for s meets a wish for s
 ask-sets : (s : Status) (r : Reaction) → for (ask s r .process .itself) s ≡ true
@@ -92,28 +90,28 @@ ask-sets s r =
     (λ _. set-on s s (r .process .itself) refl)
 
 -- so a pass meets what the right asked for
-pass-for-answers : (s : Status) (r : Reaction) → Meets s (heard s) (passFor s r)
+pass-for-answers : (s : Status) (r : Reaction) → Meets s (rightAsked s) (passFor s r)
 unfolding passFor
 pass-for-answers s r =
-    by-test (Meets s (heard s)) (for (r .process .asked) s) _ _ (λ _ _. ask-sets s r)
+    by-test (Meets s (rightAsked s)) (for (r .process .asked) s) _ _ (λ _ _. ask-sets s r)
     (λ off on. absurd (true≢false (sym on ∙ off)))
 
-pass-answers : (t : Status) (r : Reaction) → Meets t (heard t) (pass r)
+pass-answers : (t : Status) (r : Reaction) → Meets t (rightAsked t) (pass r)
 unfolding pass
-pass-answers true r = pass-for-meets full (heard full) empty (passFor full r) (pass-for-answers full r)
+pass-answers true r = pass-for-meets full (rightAsked full) empty (passFor full r) (pass-for-answers full r)
 pass-answers false r = pass-for-answers empty (passFor full r)
 
 -- and it is enough that what the stage waits for was asked for before
-pass-asked : (t : Status) (r : Reaction) → Meets t (bid t) r → HasAsked t (pass r .process)
+pass-asked : (t : Status) (r : Reaction) → Meets t (stageWaits t) r → HasAsked t (pass r .process)
 pass-asked t r h away rested =
     either-way (for (pass r .process .asked) t) _ (pass-answers t r)
-    (λ waits. pass-meets t (bid t) r h (and-first _ _ waits))
+    (λ waits. pass-meets t (stageWaits t) r h (and-first _ _ waits))
 
 -- as it is after asking for it
-ask-bids : (s t : Status) (r : Reaction) → r .process .stage ≡ waitsFor s → Meets t (bid t) (ask s r)
+ask-waits : (s t : Status) (r : Reaction) → r .process .stage ≡ waitsFor s → Meets t (stageWaits t) (ask s r)
 unfolding ask
-ask-bids s t r here =
-    by-test (Meets t (bid t)) (for (r .process .itself) s) _ _ (λ on w. rw (one w) at on)
+ask-waits s t r here =
+    by-test (Meets t (stageWaits t)) (for (r .process .itself) s) _ _ (λ on w. rw (one w) at on)
     (λ _ w. set-on s t (r .process .itself) (one w))
   where
     one : eqb (r .process .stage) (waitsFor t) ≡ true → s ≡ t
@@ -190,7 +188,7 @@ module _ (e : Envelope) (p : Process) (fits : Fits e p) (code m : ℕ) (t : Stat
       by-test Asked (p .have) _ _
       (λ had. by-test Asked (Bool·beq (e .full) s) _ _ (λ _ away. absurd (true≢false (sym had ∙ away)))
       (λ differs. mark-asked t (begun e p) had (here ∙ ap waitsFor (sym (other-status (e .full) s differs)))))
-      (λ _. pass-asked t (ask s (begun e p)) (ask-bids s t (begun e p) here))
+      (λ _. pass-asked t (ask s (begun e p)) (ask-waits s t (begun e p) here))
 
   -- stage 5
   sends-asked : p .stage ≡ 5 → Asked (endPut (forward (clear empty (begun e p))))

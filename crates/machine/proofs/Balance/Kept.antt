@@ -28,7 +28,7 @@ use Rattle.machine.proofs.Facts.{fits-at}
 use Rattle.machine.proofs.Placed.{length-placed, sum-placed}
 use Rattle.machine.proofs.Kept.{length-applied, facts-kept}
 use Rattle.machine.proofs.Balance.Clauses.{filled, emptied, number, Counted, Invariant, one-flag}
-use Rattle.machine.proofs.Balance.Header.{react-apart}
+use Rattle.machine.proofs.Balance.Header.{react-only-holder}
 use Rattle.machine.proofs.Balance.Rest.{react-rests}
 use Rattle.machine.proofs.Balance.Claimed.{react-claims}
 use Rattle.machine.proofs.Balance.HasAsked.{react-asked}
@@ -99,7 +99,8 @@ module _ (st : State) (t : Totals) (inv : Invariant st t) (v : Event)
         few = omega (arith, length-placed l i r, inv .few);
         fits = facts-kept st v below (inv .few) (inv .fits);
         rests =
-            rests-placed e l i r (inv .two) below (one-flag st t inv) (react-apart e p fits-here (v .code) (v .message))
+            rests-placed e l i r (inv .two) below (one-flag st t inv)
+            (react-only-holder e p fits-here (v .code) (v .message))
             (inv .rests) (react-rests e p fits-here own-mark (v .code) (v .message) (inv .rests i below));
         claimed =
             claimed-placed e l i r (inv .two) below (inv .claimed)

@@ -25,7 +25,7 @@ use Rattle.machine.proofs.Balance.Clauses.{filled, number, AtRest, uncl
 use Rattle.machine.proofs.Balance.Clauses.{Handed}
 use Rattle.machine.proofs.Balance.Pairs.{either-for}
 use Rattle.machine.proofs.Around.{beside, placed-self, placed-other}
-use Rattle.machine.proofs.Balance.Header.{Apart}
+use Rattle.machine.proofs.Balance.Header.{OnlyHolder}
 use Rattle.machine.proofs.Balance.Claimed.{Claims}
 
 -- ---- requests that come to a neighbour
@@ -76,13 +76,13 @@ module _ (e : Envelope) (l : List Process) (i : ℕ) (r : Reaction) (two : 2 ≤
           (others j (omega (arith, length-placed l i r)) apart)
 
   -- A. Another process that has the envelope finds it as it was
-  pub rests-placed : sum flagsSet l ≡ 1 → Apart e (processAt l i) r
+  pub rests-placed : sum flagsSet l ≡ 1 → OnlyHolder e (processAt l i) r
       → ((j : ℕ) → j < length l → AtRest e (processAt l j))
       → AtRest (r .envelope) (r .process)
       → (j : ℕ) → j < length (place l i r) → AtRest (r .envelope) (processAt (place l i r) j)
   rests-placed one apart before here = at-each (λ (j : ℕ) (p : Process). AtRest (r .envelope) p) here (others apart)
     where
-      others : Apart e (processAt l i) r → (j : ℕ) → j < length l → j ≢ i
+      others : OnlyHolder e (processAt l i) r → (j : ℕ) → j < length l → j ≢ i
           → AtRest (r .envelope) (beside (length l) i r j (processAt l j))
       others (inl had) j within differs =
           λ has. absurd (omega (arith, two-le flagsSet refl l i j below within differs, one, ap bit had, ap bit has))

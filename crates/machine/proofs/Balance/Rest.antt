@@ -18,10 +18,10 @@ use Rattle.machine.proofs.Ways.{by-test, by-stage, every-code}
 use Rattle.machine.proofs.Sums.{marksFor}
 use Rattle.machine.proofs.Owed.{Owed, begun, begun-owed, ask-owed, pass-owed, forward-owed, clear-owed}
 use Rattle.machine.proofs.Owed.{off-stays, off-left}
-use Rattle.machine.proofs.Settled.{Fits, had-at, plain-each, other-status}
-use Rattle.machine.proofs.Balance.Clauses.{waitsFor, restful, RestsOf, AtRest}
+use Rattle.machine.proofs.Settled.{Fits, had-at, plain-each, other-status, waitsFor, mark-waiting}
+use Rattle.machine.proofs.Balance.Clauses.{restful, RestsOf, AtRest}
 use Rattle.machine.proofs.Balance.Pairs.{either-for}
-use Rattle.machine.proofs.Balance.Stages.{waits-for-none, waits-same, mayFor, mark-waiting, calm-restless}
+use Rattle.machine.proofs.Balance.Stages.{waits-for-none, waits-same, mayFor, calm-restless}
 
 -- the clause, of what an event comes to
 abbrev Rested : Reaction → Type 0

@@ -6,17 +6,13 @@ use mathlib.Core.Bool.{Bool, true, false, not, cond, _||_, Bool·beq, true≢fal
 use native.Mathlib.Omega.{arith}
 use lib.Dec.{eqb, leb}
 use borrow.Author.Tests.{leb-true}
-use Rattle.machine.specs.declared.Envelope.{Envelope}
-use Rattle.machine.specs.declared.Process.{Process}
 use Rattle.machine.specs.Lists.{every}
-use Rattle.machine.specs.Fields.{Status, full}
-use Rattle.machine.specs.Stages.{lastStage, markable}
-use Rattle.machine.specs.Events.{mark}
+use Rattle.machine.specs.Fields.{Status}
+use Rattle.machine.specs.Stages.{lastStage}
 use Rattle.machine.proofs.Lists.{every-at, follow}
 use Rattle.machine.proofs.Ways.{moving}
-use Rattle.machine.proofs.Owed.{Owed, begun, begun-owed, mark-owed}
-use Rattle.machine.proofs.Settled.{Fits}
-use Rattle.machine.proofs.Balance.Clauses.{waitsFor, restful}
+use Rattle.machine.proofs.Settled.{waitsFor}
+use Rattle.machine.proofs.Balance.Clauses.{restful}
 
 -- what holds at 0 to 10 holds at every stage
 pub at-stages : (f : ℕ → Bool) → every 11 f ≡ true → (stage : ℕ) → leb stage lastStage ≡ true → f stage ≡ true
@@ -39,19 +35,6 @@ waits-same false false = refl
 -- the stage that a process which waits for s comes to when it has the envelope so: 8 for full, 3 for empty
 abbrev pub mayFor : Status → ℕ
 mayFor s = cond s 8 3
-
--- who waits may be marked for what it waits for
-waiting-markable : (s : Status) → markable s (waitsFor s) ≡ true
-waiting-markable true = refl
-waiting-markable false = refl
-
--- a process that waits for the status opposite to the present one marks for it
-pub mark-waiting : (e : Envelope) (p : Process) → Fits e p → (s : Status) → p .stage ≡ waitsFor s → not (e .full) ≡ s
-    → Owed e p (mark (begun e p))
-unfolding mark
-mark-waiting e p fits s here other =
-    let may : markable (not (e .full)) (p .stage) ≡ true = rw (here, other) (waiting-markable s) in
-    mark-owed e p (not (e .full)) (begun e p) may (begun-owed e p (fits .marked))
 
 -- where a put only clears its news, the stage is not restful
 pub calm-restless : (stage : ℕ) → leb stage lastStage ≡ true → moving stage ≡ false → restful stage ≡ true → ⊥

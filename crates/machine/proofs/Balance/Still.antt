@@ -13,9 +13,9 @@ use Rattle.machine.specs.Lists.{every}
 use Rattle.machine.specs.Fields.{Status, for}
 use Rattle.machine.specs.Stages.{lastStage, told, withEmpty, withFull, sending, receiving}
 use Rattle.machine.proofs.Lists.{and-first, and-second, or-first, or-second, follow}
-use Rattle.machine.proofs.Settled.{Fits, had-at}
+use Rattle.machine.proofs.Settled.{Fits, had-at, waitsFor}
 use Rattle.machine.proofs.Stopped.{nothingAt}
-use Rattle.machine.proofs.Balance.Clauses.{waitsFor, restful, filled, emptied, Rests, seeks, HasAsked}
+use Rattle.machine.proofs.Balance.Clauses.{restful, filled, emptied, Rests, seeks, HasAsked}
 use Rattle.machine.proofs.Balance.Clauses.{holdsRequest, Handed}
 use Rattle.machine.proofs.Balance.Stages.{at-stages}
 
@@ -117,7 +117,7 @@ pub record Unserved (status : Status) (have : Bool) (stage : ℕ) : Type 0 where
   pub untaken : emptied stage ≡ false
   pub filler : bit (filled stage) ≤ bit (status && have)
 
--- the stage has the envelope that it seeks, is at rest, doesn't wait for the present status, and isn't 10
+-- the stage has the envelope that it needs, is at rest, doesn't wait for the present status, and isn't 10
 abbrev standing : Status → Bool → ℕ → Bool
 standing status have stage =
     (not (withEmpty stage) || have && not status) && (not (withFull stage) || have && status)
