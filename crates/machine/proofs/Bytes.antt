@@ -13,7 +13,7 @@ use lib.Seq.{drop-append-add, drop-append-seam, take-append-seam, drop-drop, tak
 use lib.Dec.{eqb, ltb}
 use lib.Pow.{shr-shr}
 use borrow.Author.Tests.{ltb-true, ltb-false, eqb-true, eqb-false, eq-eqb, ne-eqb}
-use Rattle.machine.specs.Bytes.{part, littleEndian, number, bytes, allZero, zeros, splice}
+use Rattle.machine.specs.Bytes.{Bytes, part, littleEndian, number, bytes, allZero, zeros, splice}
 
 pub lt-or-ge : (a b : ℕ) → (a < b) ⊎ (b ≤ a)
 lt-or-ge a b = go (ltb a b) refl
@@ -128,10 +128,6 @@ all-zero (b ∷ bs) = rw (all-zero bs) (sum-is-zero b (littleEndian bs))
 pub zeros-number : (s : List ℕ) (at width : ℕ) → zeros s at width ≡ eqb (number s at width) 0
 unfolding zeros number
 zeros-number s at width = all-zero (part s at width)
-
--- a buffer's elements are bytes
-abbrev pub Bytes : List ℕ → Type 0
-Bytes s = (k : ℕ) → getD s k 0 < 256
 
 pub number-lt : (s : List ℕ) (at : ℕ) → Bytes s → number s at 4 < 2 ^ 32
 number-lt s at small =

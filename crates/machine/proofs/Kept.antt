@@ -20,8 +20,8 @@ use Rattle.machine.specs.Image.{State, sizeIn, stateIn, imageWith, heade
 use Rattle.machine.specs.Sound.{stageFits, stagesFit, countFits, sound}
 use Rattle.machine.specs.Events.{Event, processAt, place, react, reaction, apply}
 use Rattle.machine.specs.Refusals.{unless, imageVerdict}
-use Rattle.machine.proofs.Lists.{all-at}
-use Rattle.machine.proofs.Bytes.{Bytes}
+use Rattle.machine.proofs.Lists.{all-at, all-each}
+use Rattle.machine.specs.Bytes.{Bytes}
 use Rattle.machine.proofs.Image.{size-written, length-written, length-header, length-records, image-pieces}
 use Rattle.machine.proofs.Readback.{InRange, read-state}
 use Rattle.machine.proofs.Rewrite.{rewrite-image, read-in-range}
@@ -33,7 +33,7 @@ use Rattle.machine.proofs.Sums.{mark-counted}
 use Rattle.machine.proofs.Settled.{Settled}
 use Rattle.machine.proofs.Facts.{StateFacts, state-facts, facts-state, fits-at, fits-process}
 use Rattle.machine.proofs.Reactions.{react-settled}
-use Rattle.machine.proofs.Placed.{all-set, all-each, length-placed, all-placed, sum-placed, places-placed}
+use Rattle.machine.proofs.Placed.{all-set, length-placed, all-placed, sum-placed, places-placed}
 use Rattle.machine.proofs.Placed.{stages-set}
 use Rattle.machine.proofs.Ranges.{react-small}
 use Rattle.machine.proofs.Octets.{written-bytes}
@@ -115,7 +115,7 @@ range-kept st v below message range =
     let r = react (v .code) (v .message) (st .envelope) (processAt ps i) in
     let small = react-small (v .code) (v .message) (st .envelope) (processAt ps i) message (range .message)
     (range .notes i below) in
-    let before = all-each noteSmall ps (λ k h. lt-ltb _ (2 ^ 32) (range .notes k h)) in
+    let before = all-each noteSmall ps blank (λ k h. lt-ltb _ (2 ^ 32) (range .notes k h)) in
     let own = lt-ltb (r .process .note) (2 ^ 32) (small .1) in
     let notes = all-placed ps i r below noteSmall (λ _ _. refl) (λ _ _. refl)
     (all-set noteSmall ps i (r .process) before own) in

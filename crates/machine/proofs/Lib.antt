@@ -35,4 +35,6 @@ pub mod Facts
 pub mod Kept
 pub mod Stopped
 pub mod Steps
+pub mod Runs
+pub mod Tallies
 pub mod Balance

@@ -102,6 +102,14 @@ pub all-at : {A : Type 0} (f : A → Bool) (l : List A) (d : A) → all f l ≡ 
     → f (getD l i d) ≡ true
 all-at f l d e i h = every-at (length l) (λ i. f (getD l i d)) (every-all f l d ∙ e) i h
 
+-- what holds of each holds of all
+pub all-each : {A : Type 0} (f : A → Bool) (l : List A) (d : A)
+    → ((i : ℕ) → i < length l → f (getD l i d) ≡ true)
+    → all f l ≡ true
+unfolding all
+all-each f [] d each = refl
+all-each f (x ∷ xs) d each = rw (each 0 (omega arith)) (all-each f xs d (λ i h. each (suc i) (omega arith)))
+
 pub all-more : {A : Type 0} (f : A → Bool) (l : List A) (x : A) → all f (l ++ (x ∷ [])) ≡ all f l && f x
 unfolding all
 all-more f [] x = and-true (f x)

@@ -11,7 +11,7 @@ use lib.Dec.{leb, lit<}
 use borrow.Author.Tests.{leb-true}
 use Rattle.machine.specs.declared.Envelope.{Envelope}
 use Rattle.machine.specs.declared.Process.{Process}
-use Rattle.machine.specs.Bytes.{bit, bytes}
+use Rattle.machine.specs.Bytes.{bit, bytes, Bytes}
 use Rattle.machine.specs.Lists.{all}
 use Rattle.machine.specs.Ring.{imageLength}
 use Rattle.machine.specs.Fields.{Status, full, empty, count}
@@ -20,7 +20,6 @@ use Rattle.machine.specs.Image.{imageWith}
 use Rattle.machine.specs.Stages.{lastStage}
 use Rattle.machine.specs.Sound.{markFits, noteFits}
 use Rattle.machine.proofs.Lists.{and-first, and-second}
-use Rattle.machine.proofs.Bytes.{Bytes}
 use Rattle.machine.proofs.Bits.{bit-le, pair-le, flags-le}
 use Rattle.machine.proofs.Image.{image-pieces}
 use Rattle.machine.proofs.Written.{processFits}

@@ -22,7 +22,7 @@ use Rattle.machine.specs.Fields.{Status, blank}
 use Rattle.machine.specs.Stages.{withEmpty, withFull}
 use Rattle.machine.specs.Sound.{places, stageFits}
 use Rattle.machine.specs.Events.{requested, arrived, processAt, change, place}
-use Rattle.machine.proofs.Lists.{and-first, and-second, all-at}
+use Rattle.machine.proofs.Lists.{and-first, and-second, all-at, all-each}
 use Rattle.machine.proofs.Around.{length-change}
 use Rattle.machine.proofs.Sums.{sum, sum-set, part-le, two-le, flagsSet, places-sum}
 
@@ -36,13 +36,6 @@ all-set f [] i p fits fit = refl
 all-set f (q ∷ l) zero p fits fit = rw fit (and-second (f q) (all f l) fits)
 all-set f (q ∷ l) (suc i) p fits fit =
     rw (and-first (f q) (all f l) fits) (all-set f l i p (and-second (f q) (all f l) fits) fit)
-
--- what holds of each record holds of all
-pub all-each : (f : Process → Bool) (l : List Process) → ((j : ℕ) → j < length l → f (processAt l j) ≡ true)
-    → all f l ≡ true
-unfolding all
-all-each f [] each = refl
-all-each f (q ∷ l) each = rw (each 0 (omega arith)) (all-each f l (λ j h. each (suc j) (omega arith)))
 
 -- a change that f doesn't read
 all-change : (f : Process → Bool) (l : List Process) (k : ℕ) (g : Process → Process) → k < length l
@@ -152,7 +145,7 @@ pub stages-set : (old new : Status) (l : List Process) (i : ℕ) (p : Process) �
     → all (stageFits old) l ≡ true → stageFits new p ≡ true
     → all (stageFits new) (set l i p) ≡ true
 stages-set old new l i p h one changes fits fit =
-    all-each (stageFits new) (set l i p) (λ j below. each j (omega (arith, length-set l i p)) (eqb j i) refl)
+    all-each (stageFits new) (set l i p) blank (λ j below. each j (omega (arith, length-set l i p)) (eqb j i) refl)
   where
     other : (processAt l i .have ≡ true) ⊎ (new ≡ old) → (j : ℕ) → j < length l → j ≢ i
         → stageFits new (processAt l j) ≡ true

@@ -27,7 +27,7 @@ module _ (t : List ℕ) (at : ℕ) (here more : List ℕ) (stands : drop at t �
   byte-here k = sym (getD-drop at t k 0) ∙ ap (λ (l : List ℕ). getD l k 0) stands
 
 -- four bytes that stand after k others
-number-here : (t : List ℕ) (at : ℕ) (before more : List ℕ) (n : ℕ) → n < 2 ^ 32
+pub number-here : (t : List ℕ) (at : ℕ) (before more : List ℕ) (n : ℕ) → n < 2 ^ 32
     → drop at t ≡ before ++ (bytes 4 n ++ more)
     → number t (at + length before) 4 ≡ n
 unfolding number

@@ -10,7 +10,7 @@ use lib.ListN.{length, getD, take, drop, replicate, take-append-drop}
 use lib.Seq.{drop-cons, drop-drop, take-add}
 use lib.Dec.{eqb}
 use borrow.Author.Tests.{eqb-true}
-use Rattle.machine.specs.Bytes.{part, number, bytes, zeros}
+use Rattle.machine.specs.Bytes.{part, number, bytes, zeros, Bytes}
 use Rattle.machine.specs.Lists.{tabulate}
 use Rattle.machine.specs.Ring.{imageLength, recordAt}
 use Rattle.machine.specs.Fields.{blank}
@@ -18,7 +18,7 @@ use Rattle.machine.specs.Image.{envelopeIn, processIn, processesIn, size
 use Rattle.machine.specs.Image.{headerBytes, processBytes, recordBytes, imageWith}
 use Rattle.machine.specs.Sound.{sound}
 use Rattle.machine.proofs.Lists.{and-first, and-second, length-tabulate, getD-tabulate}
-use Rattle.machine.proofs.Bytes.{Bytes, number-more, zeros-more, number-lt}
+use Rattle.machine.proofs.Bytes.{number-more, zeros-more, number-lt}
 use Rattle.machine.proofs.Sound.{HeaderFacts, RecordFacts, sound-facts}
 use Rattle.machine.proofs.Bits.{is-bit, markers-are, flags-are, requests-are}
 use Rattle.machine.proofs.Image.{image-pieces}

@@ -12,7 +12,8 @@ use Rattle.machine.specs.Stopped.{isIdle}
 use Rattle.machine.specs.Tape.{eventIn}
 use Rattle.machine.specs.Refusals.{codes, imageVerdict, eventVerdict}
 use Rattle.machine.specs.Answers.{lent, stepVerdict, stepImage}
-use Rattle.machine.proofs.Bytes.{Bytes, number-lt}
+use Rattle.machine.specs.Bytes.{Bytes}
+use Rattle.machine.proofs.Bytes.{number-lt}
 use Rattle.machine.proofs.Rewrite.{rewrite-image}
 use Rattle.machine.proofs.Refusals.{image-fine, event-below}
 use Rattle.machine.proofs.Idle.{idle-keeps}

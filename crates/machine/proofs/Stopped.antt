@@ -17,9 +17,8 @@ use Rattle.machine.specs.Stages.{told}
 use Rattle.machine.specs.Events.{idle, work, signal, receive, hear, put, react, processAt, reaction}
 use Rattle.machine.specs.Events.{outcome}
 use Rattle.machine.specs.Stopped.{isIdle, quiet, stopped, Stopped}
-use Rattle.machine.proofs.Lists.{and-first, and-second, all-at}
+use Rattle.machine.proofs.Lists.{and-first, and-second, all-at, all-each}
 use Rattle.machine.proofs.Idle.{idles, put-at-moves}
-use Rattle.machine.proofs.Placed.{all-each}
 
 -- ---- the outcome idle, as a test and as a fact
 
@@ -103,7 +102,7 @@ stopped-means st h i below =
 pub means-stopped : (st : State) → Stopped st → stopped st ≡ true
 unfolding stopped outcome reaction
 means-stopped st each =
-    all-each (quiet (st .envelope)) (st .processes)
+    all-each (quiet (st .envelope)) (st .processes) blank
     (λ i below. means-quiet (st .envelope) (processAt (st .processes) i) (each i below))
 
 -- ---- as code asks: something to do, or nothing

@@ -18,7 +18,7 @@ use Rattle.machine.specs.Image.{withProcess, withEnvelope}
 use Rattle.machine.specs.Sound.{sound}
 use Rattle.machine.specs.Events.{processAt}
 use Rattle.machine.proofs.Lists.{getD-tabulate}
-use Rattle.machine.proofs.Bytes.{Bytes}
+use Rattle.machine.specs.Bytes.{Bytes}
 use Rattle.machine.proofs.Walk.{length-processes}
 use Rattle.machine.proofs.Image.{replaced, enveloped, write-process, write-envelope}
 use Rattle.machine.proofs.Readback.{InRange, read-state}

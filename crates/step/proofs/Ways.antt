@@ -17,7 +17,7 @@ use Rattle.machine.specs.Stopped.{isIdle}
 use Rattle.machine.specs.Tape.{eventIn}
 use Rattle.machine.specs.Refusals.{codes, imageVerdict, eventVerdict}
 use Rattle.machine.specs.Answers.{answer, outcomeValues, stepVerdict, stepAnswer, stepImage}
-use Rattle.machine.proofs.Bytes.{Bytes}
+use Rattle.machine.specs.Bytes.{Bytes}
 use Rattle.machine.proofs.Rewrite.{rewrite-image}
 use Rattle.machine.proofs.Refusals.{image-fine, event-below}
 use Rattle.machine.proofs.Stored.{read-at, read-envelope-at}

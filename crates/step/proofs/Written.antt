@@ -18,7 +18,7 @@ use Rattle.machine.specs.Fields.{blank}
 use Rattle.machine.specs.Image.{State, processIn, sizeIn, stateIn, imageWith, withProcess, withEnvelope}
 use Rattle.machine.specs.Events.{requested, arrived, processAt, change, place}
 use Rattle.machine.specs.Refusals.{imageVerdict}
-use Rattle.machine.proofs.Bytes.{Bytes}
+use Rattle.machine.specs.Bytes.{Bytes}
 use Rattle.machine.proofs.Image.{replaced, enveloped, write-process, write-envelope}
 use Rattle.machine.proofs.Readback.{read-process}
 use Rattle.machine.proofs.Rewrite.{read-in-range}

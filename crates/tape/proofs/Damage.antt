@@ -11,10 +11,10 @@ use lib.Seq.{getD-set-same, getD-set-other, set-getD}
 use borrow.Author.Tests.{ne-eqb}
 use Rattle.machine.specs.declared.Refusal.the-variants as refusal
 use Rattle.machine.specs.declared.Verdict.the-variants.{Fine, Refused}
-use Rattle.machine.specs.Bytes.{part, bytes}
+use Rattle.machine.specs.Bytes.{part, bytes, Bytes}
 use Rattle.machine.specs.Tape.{check, covered, blockCheck}
 use Rattle.machine.specs.Refusals.{first, lengthVerdict, mostBlocks, checkVerdict, blockVerdict, tapeVerdict}
-use Rattle.machine.proofs.Bytes.{Bytes, lt-or-ge, number-2}
+use Rattle.machine.proofs.Bytes.{lt-or-ge, number-2}
 use Rattle.machine.proofs.Refusals.{first-fine}
 use Rattle.machine.proofs.Rewrite.{bytes-number}
 use Rattle.blocks.proofs.First.{first-refused}

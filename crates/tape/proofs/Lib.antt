@@ -5,6 +5,7 @@ pub mod Reader
 pub mod Parts
 pub mod Written
 pub mod Slots
+pub mod Events
 pub mod Round
 pub mod Same
 pub mod Covered

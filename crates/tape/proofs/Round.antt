@@ -8,12 +8,11 @@ use native.Mathlib.Omega.{arith}
 use lib.ListN.{length, take, replicate, length-replicate}
 use lib.Seq.{take-all, take-at, drop-at}
 use Rattle.machine.specs.declared.Verdict.the-variants.{Fine}
-use Rattle.machine.specs.Bytes.{part, bytes, allZero, zeros}
+use Rattle.machine.specs.Bytes.{part, bytes, allZero, zeros, Bytes}
 use Rattle.machine.specs.Tape.{covered, blockCount, slotAt, usedSlots, listOf}
 use Rattle.machine.specs.Tape.{blockBytes, slotsFor, padded, blockFor, blocksFor, tapeOf}
 use Rattle.machine.specs.Refusals.{eventFits, listVerdict, tapeVerdict}
 use Rattle.machine.proofs.Written.{no-byte-set}
-use Rattle.machine.proofs.Bytes.{Bytes}
 use Rattle.machine.proofs.Rewrite.{part-add, zero-part, bytes-number}
 use Rattle.blocks.proofs.Joined.{joined-same}
 use Rattle.blocks.proofs.Blocks.{ListFine, list-fine, fine-list, BlockFine, TapeFine, tape-fine, fine-tape}

@@ -10,11 +10,10 @@ use borrow.Author.Tests.{le-leb}
 use Rattle.machine.specs.declared.Refusal.the-variants as refusal
 use Rattle.machine.specs.declared.Verdict.{Verdict}
 use Rattle.machine.specs.declared.Verdict.the-variants.{Fine, Refused}
-use Rattle.machine.specs.Bytes.{splice}
+use Rattle.machine.specs.Bytes.{splice, Bytes}
 use Rattle.machine.specs.Tape.{listOf, tapeOf}
 use Rattle.machine.specs.Refusals.{orElse, codes, sizeVerdict, listVerdict, tapeVerdict, outputVerdict}
 use Rattle.machine.specs.Answers.{answer, writeVerdict, writeAnswer, writeOutput, readVerdict, readAnswer, readOutput}
-use Rattle.machine.proofs.Bytes.{Bytes}
 use Rattle.machine.proofs.Refusals.{first-fine, second-fine}
 use Rattle.span.proofs.Splices.{part-written}
 use Rattle.tape.proofs.Ways.{tests}

@@ -6,9 +6,9 @@ use mathlib.Core.List.{List}
 use mathlib.Core.Logic.{_⊎_, inl, inr}
 use native.Mathlib.Omega.{arith}
 use lib.ListN.{length, getD, set, length-set}
-use Rattle.machine.specs.Bytes.{number}
+use Rattle.machine.specs.Bytes.{number, Bytes}
 use Rattle.machine.specs.Tape.{words, check, covered, blockCheck}
-use Rattle.machine.proofs.Bytes.{Bytes, number-2}
+use Rattle.machine.proofs.Bytes.{number-2}
 use Rattle.seal.proofs.Words.{length-covered, length-covered-words, word-front, word-slots}
 use Rattle.tape.proofs.Covered.{Place, covered-set, check-apart}
 use Rattle.tape.proofs.Moved.{Exchanged, words-set, check-stayed, check-stays}

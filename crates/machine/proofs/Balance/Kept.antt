@@ -39,7 +39,7 @@ use Rattle.machine.proofs.Balance.OnRing.{rests-placed, claimed-placed,
 -- ---- E. The counts, with one event more
 
 -- counts that are these, for what totals have no part in
-abbrev countsOf : Totals → Counts
+abbrev pub countsOf : Totals → Counts
 countsOf t =
     record { puts = t .puts; gets = t .gets; fills = 0; takes = 0; sent = t .sent; got = t .got; idle = 0; records = 0 }
 

@@ -1,0 +1,123 @@
+-- The third demand over lists of calls: the fresh ring has the invariant with nothing shown, every call keeps it with
+-- what it shows besides, and what is promised is read off it and off the image's bytes. Assumes nothing.
+use Prim.Native.Nat.{ℕ, suc, _≤_, _<_}
+use mathlib.Core.Path.{_≡_, refl, sym, ap, subst, _∙_}
+use mathlib.Core.Bool.{Bool, true, false}
+use mathlib.Core.List.{List, [], _∷_}
+use native.Mathlib.Omega.{arith}
+use lib.ListN.{length}
+use lib.Dec.{lit<}
+use Rattle.machine.specs.declared.Verdict.the-variants.{Fine}
+use Rattle.machine.specs.Bytes.{Bytes, bit}
+use Rattle.machine.specs.Ring.{least, most, imageLength}
+use Rattle.machine.specs.Image.{sizeIn, stateIn, imageWith}
+use Rattle.machine.specs.Fields.{Status, count}
+use Rattle.machine.specs.Fresh.{freshEnvelope, freshState}
+use Rattle.machine.specs.Stopped.{stopped}
+use Rattle.machine.specs.Balance.{Totals}
+use Rattle.machine.specs.Refusals.{imageVerdict}
+use Rattle.machine.specs.Answers.{Answer, freshVerdict, freshImage, stoppedAnswer}
+use Rattle.machine.proofs.Image.{size-written}
+use Rattle.machine.proofs.Readback.{read-state}
+use Rattle.machine.proofs.Octets.{written-bytes}
+use Rattle.machine.proofs.Refusals.{fresh-whole}
+use Rattle.machine.proofs.Fresh.{fresh-fits, length-fresh, fresh-in-range, fresh-accepted}
+use Rattle.machine.proofs.Facts.{state-facts}
+use Rattle.machine.proofs.Stopped.{stopped-means}
+use Rattle.machine.proofs.Balance.Start.{fresh-invariant}
+use Rattle.machine.proofs.Balance.Theorem.{balanced}
+use Rattle.calls.specs.Calls.{Call, imageAfter, imageAfterAll, nothing, value, shown, plus, shownByAll}
+use Rattle.calls.specs.Demand.{flagsSet, SaysStopped, Promised, GivenBytes, ThirdDemand}
+use Rattle.calls.proofs.Flags.{flags-are-places, own-message-read}
+use Rattle.calls.proofs.Shown.{plus-nothing, nothing-plus, plus-assoc}
+use Rattle.calls.proofs.Calls.{Reached, call-kept}
+
+-- ---- the fresh ring
+
+-- no process is marked, for either status
+none-marked : (s : Status) → count (freshEnvelope .marked) s < 256
+none-marked true = lit< tt
+none-marked false = lit< tt
+
+module _ (n home : ℕ) (two : least ≤ n) (few : n ≤ most) (below : home < n) (buffer : List ℕ) (small : Bytes buffer)
+    (room : imageLength n ≤ length buffer) where
+  -- the fresh ring call isn't refused
+  accepted : freshVerdict n home buffer ≡ Fine
+  accepted = fresh-whole n home buffer (record { least = two; most = few }) below room
+
+  -- its image is the fresh state, written
+  fresh-written : freshImage n home buffer ≡ imageWith buffer (freshState n home)
+  unfolding freshImage
+  fresh-written = rw accepted
+
+  fresh-reached : Reached n (freshImage n home buffer) nothing
+  unfolding freshState
+  fresh-reached =
+      let st = freshState n home in
+      let long = length-fresh n home in
+      let bytes : Bytes (imageWith buffer st) =
+      written-bytes buffer st small (omega arith) none-marked (state-facts st (fresh-fits n home below) .processes) in
+      record {
+        fine = fresh-accepted n home buffer accepted;
+        small = subst Bytes (sym fresh-written) bytes;
+        size = ap sizeIn fresh-written ∙ size-written buffer st ∙ long;
+        invariant =
+            rw (fresh-written, read-state buffer st (fresh-in-range n home))
+            (fresh-invariant n home two few below);
+      }
+
+-- ---- a list of calls
+
+calls-kept : (n : ℕ) (calls : List Call) (image : List ℕ) (t : Totals) → GivenBytes calls → Reached n image t
+    → Reached n (imageAfterAll image calls) (plus t (shownByAll image calls))
+unfolding imageAfterAll shownByAll
+calls-kept n [] image t bytes before = subst (Reached n image) (sym (plus-nothing t)) before
+calls-kept n (c ∷ calls) image t bytes before =
+    let next = imageAfter image c in
+    subst (Reached n (imageAfterAll next calls)) (plus-assoc t (shown image c) (shownByAll next calls))
+    (calls-kept n calls next (plus t (shown image c)) (λ k h. bytes (suc k) (omega arith))
+    (call-kept before c (bytes 0 (omega arith))))
+
+-- ---- what is promised
+
+-- 1 is yes
+is-yes : (b : Bool) → bit b ≡ 1 → b ≡ true
+is-yes true e = refl
+is-yes false e = absurd (omega arith)
+
+-- a yes means that the ring is stopped
+says-stopped : (image : List ℕ) → imageVerdict image ≡ Fine → SaysStopped image → stopped (stateIn image) ≡ true
+unfolding stoppedAnswer
+says-stopped image fine says =
+    is-yes (stopped (stateIn image)) (ap (λ (a : Answer). value a 0) (rw fine at says))
+
+promised : (n : ℕ) (image : List ℕ) (t : Totals) → Reached n image t → Promised n image t
+promised n image t here =
+    let all = balanced (stateIn image) t (here .invariant) in
+    record {
+      one-place = ap (flagsSet image) (sym (here .size)) ∙ flags-are-places image ∙ all .one-place;
+      messages = rw (own-message-read image) (all .messages);
+      stopped = λ says. all .stopped (stopped-means (stateIn image) (says-stopped image (here .fine) says));
+    }
+
+-- ---- from the fresh ring
+
+module _ (n home : ℕ) (two : least ≤ n) (few : n ≤ most) (below : home < n) (buffer : List ℕ) (small : Bytes buffer)
+    (room : imageLength n ≤ length buffer) (calls : List Call) (bytes : GivenBytes calls) where
+  -- the image after the list
+  abbrev pub last : List ℕ
+  last = imageAfterAll (freshImage n home buffer) calls
+
+  all-reached : Reached n last (shownByAll (freshImage n home buffer) calls)
+  all-reached =
+      let first = freshImage n home buffer in
+      subst (Reached n last) (nothing-plus (shownByAll first calls))
+      (calls-kept n calls first nothing bytes (fresh-reached n home two few below buffer small room))
+
+  -- it is accepted, and byte 0 is still n: so a stopped call is never refused
+  pub always-accepted : (imageVerdict last ≡ Fine) × (sizeIn last ≡ n)
+  always-accepted = (all-reached .fine, all-reached .size)
+
+pub demand-three : ThirdDemand
+demand-three n home two few below buffer small room calls bytes =
+    promised n _ _ (all-reached n home two few below buffer small room calls bytes)

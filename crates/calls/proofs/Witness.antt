@@ -1,0 +1,69 @@
+-- The demand is not empty: entry 1's events by a run, a step and another run, with refused and stopped calls in
+-- between, make a list that ends stopped, with all that can happen in it. The checker computes it. Assumes nothing.
+use Prim.Native.Nat.{ℕ, _≤_, _<_}
+use mathlib.Core.Path.{_≡_, refl}
+use mathlib.Core.Bool.{Bool, true}
+use mathlib.Core.List.{List, [], _∷_, _++_}
+use mathlib.Core.Logic.{_⊎_, inl, inr}
+use lib.ListN.{length, getD, drop, replicate, List·getD-eq-default}
+use lib.Dec.{ltb, lit<, lit≤}
+use borrow.Author.Tests.{ltb-true}
+use Rattle.machine.specs.Bytes.{Bytes}
+use Rattle.machine.specs.Lists.{all}
+use Rattle.machine.specs.Tape.{tapeOf}
+use Rattle.machine.specs.Answers.{stepAnswer, runAnswer}
+use Rattle.machine.proofs.Lists.{all-at}
+use Rattle.machine.proofs.Bytes.{lt-or-ge}
+use Rattle.machine.proofs.Computed.{rules}
+use Rattle.machine.proofs.Cases.{refused, event}
+use Rattle.machine.proofs.Entries.{firstTen, lastTen, ring}
+use Rattle.calls.specs.Calls.{Call, imageAfterAll, ledgerMessages, shownByAll}
+use Rattle.calls.specs.Calls.Call.{Step, Run, Stopped}
+use Rattle.calls.specs.Demand.{SaysStopped, Promised, given, GivenBytes}
+use Rattle.calls.proofs.Demand.{demand-three}
+
+-- a tape whose event 1 is at process 2
+unfoldable pub offRing : List ℕ
+offRing = tapeOf (event 1 0 7 ++ event 2 0 7)
+
+-- an empty event and that tape are refused; where a run's answer has its puts, the tape's refusal has its place, 1
+pub both-refused : (stepAnswer ring [] ≡ refused 5 0) × (runAnswer ring offRing [] ≡ refused 5 1)
+unfolding rules ring offRing
+both-refused = (refl, refl)
+
+-- the get that the last ten events begin with starts by a step
+unfoldable pub calls : List Call
+calls =
+    Step [] ∷ Run offRing [] ∷ Run (tapeOf firstTen) (replicate 12 255) ∷ Stopped ∷ Step (event 0 1 0)
+    ∷ Run (tapeOf (drop 8 lastTen)) (replicate 37 255) ∷ Stopped ∷ []
+
+-- a put and a get ended, a message filled and taken, and the ring stopped
+pub all-ended :
+    (shownByAll ring calls ≡ record { puts = 1; gets = 1; sent = 1; got = 1; filled = 7 ∷ []; taken = 7 ∷ [] })
+    × SaysStopped (imageAfterAll ring calls)
+unfolding rules ring firstTen lastTen offRing calls imageAfterAll ledgerMessages shownByAll
+all-ended = (refl, refl)
+
+-- ---- the demand speaks of this list
+
+-- bytes, by a test
+abbrev octets : List ℕ → Bool
+octets s = all (λ b. ltb b 256) s
+
+are-bytes : (s : List ℕ) → octets s ≡ true → Bytes s
+are-bytes s test k = go (lt-or-ge k (length s))
+  where
+    go : (k < length s) ⊎ (length s ≤ k) → getD s k 0 < 256
+    go (inl below) = ltb-true _ 256 (all-at (λ b. ltb b 256) s 0 test k below)
+    go (inr past) = rw (List·getD-eq-default s 0 past) (lit< tt)
+
+given-bytes : GivenBytes calls
+unfolding rules firstTen lastTen offRing calls
+given-bytes k h = are-bytes (given (getD calls k Stopped)) (all-at (λ c. octets (given c)) calls Stopped refl k h)
+
+-- so it promises this of it
+pub promised-here : Promised 2 (imageAfterAll ring calls) (shownByAll ring calls)
+unfolding ring all
+promised-here =
+    demand-three 2 0 (lit≤ tt) (lit≤ tt) (lit< tt) (replicate 32 255) (are-bytes (replicate 32 255) refl) (lit≤ tt)
+    calls given-bytes

@@ -1,0 +1,1 @@
+// Lists of calls, and the third demand: definitions and proofs alone, no code.

@@ -1,0 +1,98 @@
+-- A run's counts and the length of its ledger: each count is what was there before and the events' own, since one event
+-- adds to each count by itself; and the ledger has 12 bytes for each record counted. Assumes nothing.
+use Prim.Native.Nat.{ℕ, _+_, _*_}
+use mathlib.Core.Path.{_≡_, refl, sym, ap, _∙_}
+use mathlib.Core.Bool.{Bool, true, false, not, cond, _&&_}
+use mathlib.Core.List.{List, [], _∷_}
+use native.Mathlib.Omega.{arith}
+use lib.ListN.{length, length-append}
+use lib.Dec.{eqb}
+use Rattle.machine.specs.declared.Counts.{Counts}
+use Rattle.machine.specs.declared.Outcome.{Outcome}
+use Rattle.machine.specs.Bytes.{bit, bytes}
+use Rattle.machine.specs.Image.{State}
+use Rattle.machine.specs.Events.{Event, outcome, apply}
+use Rattle.machine.specs.Run.{outcomeNumber, recorded, ledgerRecord, ledgerEntry, ledgerFrom, noCounts, counted}
+use Rattle.machine.specs.Run.{countsFrom}
+use Rattle.machine.proofs.Bytes.{length-bytes}
+
+-- ---- one count
+
+-- a count to which each event adds by itself
+module _ (field : Counts → ℕ) (share : ℕ → Outcome → ℕ) (none : field noCounts ≡ 0)
+    (more : (code : ℕ) (o : Outcome) (c : Counts) → field (counted code o c) ≡ field c + share code o) where
+  add : (vs : List Event) (st : State) (c : Counts)
+      → field (countsFrom c st vs) ≡ field c + field (countsFrom noCounts st vs)
+  unfolding countsFrom
+  add [] st c = omega (arith, none)
+  add (v ∷ vs) st c =
+      let o = outcome st v in
+      let code = v .code in
+      omega (
+        arith,
+        none,
+        more code o c,
+        more code o noCounts,
+        add vs (apply st v) (counted code o c),
+        add vs (apply st v) (counted code o noCounts),
+      )
+
+-- whether an event starts something, by its code
+abbrev starts : ℕ → ℕ → Outcome → ℕ
+starts start code o = bit (eqb code start && not (eqb (outcomeNumber o) 0))
+
+-- whether it has an outcome
+abbrev has : ℕ → ℕ → Outcome → ℕ
+has number code o = bit (eqb (outcomeNumber o) number)
+
+module _ (vs : List Event) (st : State) (c : Counts) where
+  -- the counts of these events alone
+  abbrev own : Counts
+  own = countsFrom noCounts st vs
+
+  pub puts-add : countsFrom c st vs .puts ≡ c .puts + own .puts
+  unfolding counted
+  puts-add = add (λ x. x .puts) (starts 0) refl (λ _ _ _. refl) vs st c
+
+  pub gets-add : countsFrom c st vs .gets ≡ c .gets + own .gets
+  unfolding counted
+  gets-add = add (λ x. x .gets) (starts 1) refl (λ _ _ _. refl) vs st c
+
+  pub sent-add : countsFrom c st vs .sent ≡ c .sent + own .sent
+  unfolding counted
+  sent-add = add (λ x. x .sent) (has 4) refl (λ _ _ _. refl) vs st c
+
+  pub got-add : countsFrom c st vs .got ≡ c .got + own .got
+  unfolding counted
+  got-add = add (λ x. x .got) (has 5) refl (λ _ _ _. refl) vs st c
+
+  pub records-add : countsFrom c st vs .records ≡ c .records + own .records
+  unfolding counted
+  records-add = add (λ x. x .records) (λ _ o. bit (recorded o)) refl (λ _ _ _. refl) vs st c
+
+-- ---- the ledger
+
+-- a record has 12 bytes
+pub length-entry : (number process : ℕ) (o : Outcome) → length (ledgerEntry number process o) ≡ 12 * bit (recorded o)
+unfolding ledgerEntry ledgerRecord
+length-entry number process o = go (recorded o)
+  where
+    go : (b : Bool) → length (cond b (ledgerRecord number process o) []) ≡ 12 * bit b
+    go true = simp (length-append, length-bytes)
+    go false = refl
+
+-- so the ledger has 12 bytes for each record counted
+pub length-ledger : (vs : List Event) (number : ℕ) (st : State)
+    → length (ledgerFrom number st vs) ≡ 12 * countsFrom noCounts st vs .records
+unfolding ledgerFrom countsFrom counted
+length-ledger [] number st = refl
+length-ledger (v ∷ vs) number st =
+    let o = outcome st v in
+    let one = counted (v .code) o noCounts in
+    length-append (ledgerEntry number (v .process) o) (ledgerFrom (number + 1) (apply st v) vs)
+    ∙ omega (
+      arith,
+      length-entry number (v .process) o,
+      length-ledger vs (number + 1) (apply st v),
+      records-add vs (apply st v) one,
+    )
