@@ -1,7 +1,7 @@
 -- A run's counts and the length of its ledger: each count is what was there before and the events' own, since one event
 -- adds to each count by itself; and the ledger has 12 bytes for each record counted. Assumes nothing.
 use Prim.Native.Nat.{ℕ, _+_, _*_}
-use mathlib.Core.Path.{_≡_, refl, sym, ap, _∙_}
+use mathlib.Core.Path.{_≡_, refl, _∙_}
 use mathlib.Core.Bool.{Bool, true, false, not, cond, _&&_}
 use mathlib.Core.List.{List, [], _∷_}
 use native.Mathlib.Omega.{arith}
@@ -72,14 +72,20 @@ module _ (vs : List Event) (st : State) (c : Counts) where
 
 -- ---- the ledger
 
--- a record has 12 bytes
-pub length-entry : (number process : ℕ) (o : Outcome) → length (ledgerEntry number process o) ≡ 12 * bit (recorded o)
-unfolding ledgerEntry ledgerRecord
-length-entry number process o = go (recorded o)
-  where
-    go : (b : Bool) → length (cond b (ledgerRecord number process o) []) ≡ 12 * bit b
-    go true = simp (length-append, length-bytes)
-    go false = refl
+module _ (number process : ℕ) (o : Outcome) where
+  -- a record is three times four bytes
+  pub length-record : length (ledgerRecord number process o) ≡ 12
+  unfolding ledgerRecord
+  length-record = simp (length-append, length-bytes)
+
+  -- and an event adds one or none
+  pub length-entry : length (ledgerEntry number process o) ≡ 12 * bit (recorded o)
+  unfolding ledgerEntry
+  length-entry = by-test (recorded o)
+    where
+      by-test : (t : Bool) → length (cond t (ledgerRecord number process o) []) ≡ 12 * bit t
+      by-test true = length-record
+      by-test false = refl
 
 -- so the ledger has 12 bytes for each record counted
 pub length-ledger : (vs : List Event) (number : ℕ) (st : State)

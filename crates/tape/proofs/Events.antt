@@ -1,14 +1,14 @@
 -- The events of an accepted tape, as a run takes them: event k is the one in slot k % 63 of block k / 63, it is at a
 -- process of the ring, and its message has 32 bits. Assumes nothing.
-use Prim.Native.Nat.{ℕ, suc, _+_, _*_, _/_, _%_, _^_, _<_}
-use mathlib.Core.Path.{_≡_, refl, ap, ap₂, _∙_}
-use mathlib.Core.Bool.{true, _&&_, _||_}
+use Prim.Native.Nat.{ℕ, _+_, _*_, _/_, _%_, _^_, _<_}
+use mathlib.Core.Path.{_≡_, ap, _∙_}
+use mathlib.Core.Bool.{true, _&&_}
 use mathlib.Core.List.{List, _∷_}
 use native.Mathlib.Omega.{arith}
 use native.Mathlib.Numerals.{add-one}
 use lib.ListN.{length, getD, drop}
 use lib.Seq.{drop-cons}
-use lib.Dec.{eqb, ltb}
+use lib.Dec.{ltb}
 use borrow.Author.Tests.{lt-ltb}
 use Rattle.machine.specs.declared.Verdict.the-variants.{Fine}
 use Rattle.machine.specs.Bytes.{Bytes, zeros}
@@ -22,7 +22,7 @@ use Rattle.machine.proofs.Lists.{and-first, length-tabulate, getD-tabulate, all
 use Rattle.machine.proofs.Runs.{fitting}
 use Rattle.blocks.specs.Counted.{eventsOn}
 use Rattle.blocks.proofs.Blocks.{TapeFine, tape-fine}
-use Rattle.tape.proofs.Slots.{Placed, event-placed, event-read}
+use Rattle.tape.proofs.Slots.{event-placed, event-read}
 
 -- an event past the end
 abbrev nobody : Event

@@ -1,0 +1,3 @@
+-- Laws that the functions of this crate cite, and that its callers need.
+pub mod Bounds
+pub mod Ways

@@ -1,0 +1,75 @@
+-- The copy is an accepted image of the same state, so its records are the image's. Assumes nothing.
+use mathlib.Core.Path.{ap, _∙_}
+use native.Mathlib.Omega.{arith}
+use Rattle.machine.specs.Image.{State}
+use Rattle.machine.specs.Answers.{runEvents}
+use Rattle.machine.proofs.Refusals.{image-fine}
+use Rattle.measure.proofs.Tallied.{recordsFrom}
+use Rattle.measure.proofs.Spare.{spare-state, spare-playable}
+use Rattle.measure.proofs.measure.Statement.{statement}
+use Rattle.measure.proofs.measure.Tie as tie
+
+shared-slice-read-wide : tie.Need-shared-slice-read-wide
+shared-slice-read-wide c =
+    let start = c .before .before .before in
+    omega (arith, image-fine (start .args .image .now) (start .pre .image-fine) .header)
+
+wide-requires : tie.Need-wide-requires
+wide-requires c κs = tt
+
+mul-length : tie.Need-mul-length
+mul-length c = omega (arith, c .wide .ensures .1)
+
+add-length : tie.Need-add-length
+add-length c = omega (arith, c .wide .ensures .1)
+
+slice-aggregate-copy : tie.Need-slice-aggregate-copy
+slice-aggregate-copy c = omega arith
+
+copy-requires : tie.Need-copy-requires
+copy-requires c κs =
+    let start = c .before .before .before .before .before in
+    let image = image-fine (start .args .image .now) (start .pre .image-fine) in (
+      omega (arith, c .before .wide .ensures .0, image .room),
+      omega (arith, c .before .wide .ensures .0, image .size .most),
+    )
+
+slice-aggregate-tally : tie.Need-slice-aggregate-tally
+slice-aggregate-tally c = omega arith
+
+tally-requires : tie.Need-tally-requires
+tally-requires c κs =
+    let read = c .before .before .before .before in
+    let start = read .before .before .before .before in
+    let s = start .args .image .now in
+    let image = image-fine s (start .pre .image-fine) in
+    spare-playable s (start .pre .image-fine)
+    (λ k. omega (arith, read .before .before .before .shared-slice-known .given k))
+    _ (omega (arith, image .size .most)) (read .wide .ensures .0) (c .before .before .copy .ensures) (start .pre)
+
+returns : tie.Need-returns
+returns c =
+    let copied = c .before .before .before .before in
+    let read = copied .before .before in
+    let start = read .before .before .before .before in
+    let s = start .args .image .now in
+    let image = image-fine s (start .pre .image-fine) in
+    c .before .tally .ensures
+    ∙ ap (λ (st : State). recordsFrom st (runEvents (start .args .tape .now)))
+    (spare-state s (start .pre .image-fine)
+    (λ k. omega (arith, read .before .before .before .shared-slice-known .given k))
+    _ (omega (arith, image .size .most)) (read .wide .ensures .0) (copied .copy .ensures))
+
+pub measure-spec : {M : Type 1} → statement M
+measure-spec =
+    tie.close
+    (tie.spec
+    shared-slice-read-wide
+    wide-requires
+    mul-length
+    add-length
+    slice-aggregate-copy
+    copy-requires
+    slice-aggregate-tally
+    tally-requires
+    returns)

@@ -1,0 +1,4 @@
+-- Laws that the functions of this crate cite.
+pub mod Held
+pub mod Going
+pub mod Ways

@@ -1,0 +1,150 @@
+-- Each refusal is the rule's first; past them the events are performed as the rule says. Assumes nothing.
+use mathlib.Core.Path.{_∙_}
+use native.Mathlib.Omega.{arith}
+use borrow.Author.Tests.{not-true, not-false}
+use Rattle.run.proofs.Ways.{image-refused, tape-refused, playable, ledger-refused, has-room, run-done}
+use Rattle.run.proofs.run.Statement.{statement}
+use Rattle.run.proofs.run.Tie as tie
+
+of-requires : tie.Need-of-requires
+of-requires c κs = tt
+
+enum-known-checked : tie.Need-enum-known-checked
+enum-known-checked c = omega arith
+
+enum-known-checked-2 : tie.Need-enum-known-checked-2
+enum-known-checked-2 c = omega arith
+
+enum-known-checked-3 : tie.Need-enum-known-checked-3
+enum-known-checked-3 c = omega arith
+
+enum-told : tie.Need-enum-told
+enum-told c = omega arith
+
+same-length : tie.Need-same-length
+same-length c = omega arith
+
+returns : tie.Need-returns
+returns c = absurd (omega arith)
+
+same-length-2 : tie.Need-same-length-2
+same-length-2 c = omega arith
+
+returns-2 : tie.Need-returns-2
+returns-2 c =
+    let i = c .before .before .before .before .before .before in
+    let a = i .before .before .before .before .before .args in
+    image-refused (a .image .now) (a .tape .now) (a .ledger .now) (i .of .ensures)
+    (c .before .before .before .before .checked2 .given .1 ∙ c .before .checked3 .given .1)
+
+of-requires-2 : tie.Need-of-requires-2
+of-requires-2 c κs = tt
+
+enum-known-counted : tie.Need-enum-known-counted
+enum-known-counted c = omega arith
+
+enum-known-counted-2 : tie.Need-enum-known-counted-2
+enum-known-counted-2 c = omega arith
+
+enum-known-counted-3 : tie.Need-enum-known-counted-3
+enum-known-counted-3 c = omega arith
+
+enum-told-2 : tie.Need-enum-told-2
+enum-told-2 c = omega arith
+
+same-length-3 : tie.Need-same-length-3
+same-length-3 c = omega arith
+
+returns-3 : tie.Need-returns-3
+returns-3 c = absurd (omega arith)
+
+same-length-4 : tie.Need-same-length-4
+same-length-4 c = omega arith
+
+returns-4 : tie.Need-returns-4
+returns-4 c =
+    let t = c .before .before .before .before .before .before in
+    let i = t .before .before .before .before in
+    let a = i .before .before .before .before .before .args in
+    tape-refused (a .image .now) (a .tape .now) (a .ledger .now) (i .of .ensures) (t .before .before .checked .given .1)
+    (t .of2 .ensures) (c .before .before .before .before .counted2 .given .1 ∙ c .before .counted3 .given .1)
+
+has-room-requires : tie.Need-has-room-requires
+has-room-requires c κs =
+    let t = c .before .before .before .before in
+    let i = t .before .before .before .before in
+    let a = i .before .before .before .before .before .args in
+    playable (a .image .now) (a .tape .now) (a .ledger .now) (i .of .ensures) (t .before .before .checked .given .1)
+    (t .of2 .ensures) (c .before .before .counted .given .1)
+
+same-length-5 : tie.Need-same-length-5
+same-length-5 c = omega arith
+
+returns-5 : tie.Need-returns-5
+returns-5 c =
+    let t = c .before .before .before .before .before .before in
+    let i = t .before .before .before .before in
+    let a = i .before .before .before .before .before .args in
+    ledger-refused (a .image .now) (a .tape .now) (a .ledger .now) (i .of .ensures)
+    (t .before .before .checked .given .1) (t .of2 .ensures) (c .before .before .before .before .counted .given .1)
+    (c .before .has-room .ensures) (not-true _ (c .if1 .taken))
+
+play-requires : tie.Need-play-requires
+play-requires c κs =
+    let t = c .before .before .before .before .before .before .before .before in
+    let i = t .before .before .before .before in
+    let a = i .before .before .before .before .before .args in
+    let some = c .before .before .before .before .before .before .counted .given .1 in
+    let enough = not-false _ (c .before .before .if1 .left) in (
+      playable (a .image .now) (a .tape .now) (a .ledger .now) (i .of .ensures) (t .before .before .checked .given .1)
+          (t .of2 .ensures) some,
+      has-room (a .image .now) (a .tape .now) (a .ledger .now) (i .of .ensures) (t .before .before .checked .given .1)
+          (t .of2 .ensures) some (c .before .before .before .has-room .ensures) enough,
+    )
+
+same-length-6 : tie.Need-same-length-6
+same-length-6 c = omega arith
+
+same-length-7 : tie.Need-same-length-7
+same-length-7 c = omega arith
+
+returns-6 : tie.Need-returns-6
+returns-6 c =
+    let p = c .before .before .before .before in
+    let room = p .before .before .before in
+    let t = room .before .before .before .before .before .before in
+    let i = t .before .before .before .before in
+    let a = i .before .before .before .before .before .args in
+    run-done (a .image .now) (a .tape .now) (a .ledger .now) (i .of .ensures) (t .before .before .checked .given .1)
+    (t .of2 .ensures) (room .before .before .before .before .counted .given .1) (room .before .has-room .ensures)
+    (not-false _ (room .if1 .left)) (p .play .ensures .0) (p .play .ensures .1 .0) (p .play .ensures .1 .1)
+
+pub run-spec : {M : Type 1} → statement M
+run-spec =
+    tie.close
+    (tie.spec
+    of-requires
+    enum-known-checked
+    enum-known-checked-2
+    enum-known-checked-3
+    enum-told
+    same-length
+    returns
+    same-length-2
+    returns-2
+    of-requires-2
+    enum-known-counted
+    enum-known-counted-2
+    enum-known-counted-3
+    enum-told-2
+    same-length-3
+    returns-3
+    same-length-4
+    returns-4
+    has-room-requires
+    same-length-5
+    returns-5
+    play-requires
+    same-length-6
+    same-length-7
+    returns-6)

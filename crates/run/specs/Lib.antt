@@ -1,0 +1,2 @@
+-- What this crate's contract cites beside the rules.
+pub mod Run

@@ -1,0 +1,12 @@
+-- What the run call's answer tells, in document 01's numbers and values. Assumes nothing.
+use mathlib.Core.List.{[]}
+use Rattle.machine.specs.declared.Verdict.the-variants as verdict
+use Rattle.machine.specs.Run.{countValues}
+use Rattle.machine.specs.Answers.{Answer, answer}
+use Rattle.run.specs.declared.RunAnswer.{RunAnswer}
+use Rattle.run.specs.declared.RunAnswer.the-variants.{Done, Refused}
+
+-- done has the eight counts in their order; a refusal has its number and its place
+abbrev pub told : RunAnswer → Answer
+told (Done c) = answer verdict.Fine (countValues c)
+told (Refused r) = answer (verdict.Refused r) []
