@@ -17,6 +17,31 @@ use Rattle.machine.specs.Run.{outcomeNumber, outcomeMessage, ledgerRecord, ledg
 use Rattle.machine.proofs.Bytes.{length-bytes, splice-next}
 use Rattle.machine.proofs.Tallies.{length-record}
 use Rattle.span.proofs.Laws.{splice-none}
+use Rattle.ledger.specs.Record.{recordOf}
+
+-- ---- a record
+
+-- the stores in their order: number; process, code and zeros; message
+pub stored : (number process code message : ℕ) (s : List ℕ) (at : ℕ) {t u v : List ℕ} → at + 12 ≤ length s
+    → t ≡ splice s at (bytes 4 number) → u ≡ splice t (at + 4) (process ∷ code ∷ 0 ∷ 0 ∷ [])
+    → v ≡ splice u (at + 8) (bytes 4 message) → v ≡ splice s at (recordOf number process code message)
+stored number process code message s at room first second third =
+    let within : at ≤ length s = omega arith in
+    let a = bytes 4 number in
+    let b : List ℕ = process ∷ code ∷ 0 ∷ 0 ∷ [] in
+    let m = bytes 4 message in
+    let four : at + 4 ≡ at + length a = omega (arith, length-bytes 4 number) in
+    let eight : at + 8 ≡ at + length (a ++ b) = omega (arith, length-append a b) in
+    third
+    ∙ rw (
+      second,
+      first,
+      four,
+      splice-next s at a b within,
+      eight,
+      splice-next s at (a ++ b) m within,
+      append-assoc a b m,
+    )
 
 -- ---- an entry
 
@@ -34,32 +59,12 @@ module _ (number process : ℕ) (o : Outcome) {code : ℕ} (is : code ≡ outcom
     pub entry-long : length (ledgerEntry number process o) ≡ 12
     entry-long = ap length entry-record ∙ length-record number process o
 
-    -- the stores in their order: number; process, code and zeros; message
-    pub entered : (s : List ℕ) (at : ℕ) {t u v : List ℕ} {message : ℕ}
-        → at + length (ledgerEntry number process o) ≤ length s → message ≡ outcomeMessage o
-        → t ≡ splice s at (bytes 4 number) → u ≡ splice t (at + 4) (process ∷ code ∷ 0 ∷ 0 ∷ [])
-        → v ≡ splice u (at + 8) (bytes 4 message) → v ≡ splice s at (ledgerEntry number process o)
+    -- a record of its number and message is the entry
+    pub entered : (s : List ℕ) (at : ℕ) {t : List ℕ} {message : ℕ} → message ≡ outcomeMessage o
+        → t ≡ splice s at (recordOf number process code message)
+        → t ≡ splice s at (ledgerEntry number process o)
     unfolding ledgerRecord
-    entered s at room said first second third =
-        let within : at ≤ length s = omega arith in
-        let a = bytes 4 number in
-        let b : List ℕ = process ∷ outcomeNumber o ∷ 0 ∷ 0 ∷ [] in
-        let m = bytes 4 (outcomeMessage o) in
-        let four : at + 4 ≡ at + length a = omega (arith, length-bytes 4 number) in
-        let eight : at + 8 ≡ at + length (a ++ b) = omega (arith, length-append a b) in
-        third
-        ∙ rw (
-          second,
-          first,
-          said,
-          is,
-          four,
-          splice-next s at a b within,
-          eight,
-          splice-next s at (a ++ b) m within,
-          append-assoc a b m,
-          entry-record,
-        )
+    entered s at said wrote = wrote ∙ rw (said, is, entry-record)
 
 -- ---- the counts
 

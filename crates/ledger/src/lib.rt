@@ -10,6 +10,7 @@ ghost use lib.ListN.{length};
 ghost use Rattle.machine.specs.Bytes.{bit as digitOf, splice};
 ghost use Rattle.machine.specs.Run.{outcomeNumber, outcomeMessage, ledgerEntry, counted};
 ghost use Rattle.ledger.specs.Bounds.{NoneAbove};
+ghost use Rattle.ledger.specs.Record.{recordOf};
 
 // Internal: an outcome's number, 0 to 5; of fill, take, sent and got it is the ledger's code.
 pub fn outcome_number(outcome: Outcome) -> u8
@@ -39,6 +40,16 @@ pub fn outcome_message(outcome: Outcome) -> u32
     }
 }
 
+// Internal: a record, written from `at` on: event number, process, code, two zeros, message.
+pub fn put_record(ledger: &mut [u8], at: usize, number: u32, process: u8, code: u8, message: u32)
+    requires { ⌜ at + 12 ≤ length (now ledger) ⌝ }
+    ensures { λ _. ⌜ now (ledger .exit) ≡ splice (now (ledger .entry)) at (recordOf number process code message) ⌝ }
+{
+    put_number(ledger, at, number);
+    put_four(ledger, at + 4, process, code, 0, 0);
+    put_number(ledger, at + 8, message);
+}
+
 // Internal: what an event with this number adds to the ledger, written from `at` on: a record of 12 bytes, or nothing.
 pub fn enter(ledger: &mut [u8], at: usize, number: u32, event: Event, outcome: Outcome)
     requires { ⌜ (event .process < 256)
@@ -51,9 +62,7 @@ pub fn enter(ledger: &mut [u8], at: usize, number: u32, event: Event, outcome: O
         return;
     }
     let message = outcome_message(outcome);
-    put_number(ledger, at, number);
-    put_four(ledger, at + 4, event.process as u8, code, 0, 0);
-    put_number(ledger, at + 8, message);
+    put_record(ledger, at, number, event.process as u8, code, message);
 }
 
 // A bit as a number, to be added to a count.

@@ -1,4 +1,5 @@
--- An outcome below 2 enters nothing; past it the record has room, and its three stores are one splice. Assumes nothing.
+-- An outcome below 2 enters nothing; past it the record has room, and is that of its number and message. Assumes
+-- nothing.
 use native.Mathlib.Omega.{arith}
 use Rattle.ledger.proofs.Ways.{entered-none, entry-long, entered}
 use Rattle.ledger.proofs.enter.Statement.{statement}
@@ -16,36 +17,12 @@ returns c =
 outcome-message-requires : tie.Need-outcome-message-requires
 outcome-message-requires c κs = tt
 
-put-number-requires : tie.Need-put-number-requires
-put-number-requires c κs =
-    let left = c .before .before in
-    let coded = left .before in
-    let a = coded .before .before .args in
-    let long =
-    entry-long (a .number) (a .event .process) (a .outcome) (coded .outcome-number .ensures) (left .if1 .left) in
-    omega arith
+cast-put-record : tie.Need-cast-put-record
+cast-put-record c = omega arith
 
-add-put-four : tie.Need-add-put-four
-add-put-four c = omega arith
-
-cast-put-four : tie.Need-cast-put-four
-cast-put-four c = omega arith
-
-put-four-requires : tie.Need-put-four-requires
-put-four-requires c κs =
-    let left = c .before .before .before .before .before .before .before in
-    let coded = left .before in
-    let a = coded .before .before .args in
-    let long =
-    entry-long (a .number) (a .event .process) (a .outcome) (coded .outcome-number .ensures) (left .if1 .left) in
-    omega arith
-
-add-put-number : tie.Need-add-put-number
-add-put-number c = omega arith
-
-put-number-requires-2 : tie.Need-put-number-requires-2
-put-number-requires-2 c κs =
-    let left = c .before .before .before .before .before .before .before .before .before .before .before in
+put-record-requires : tie.Need-put-record-requires
+put-record-requires c κs =
+    let left = c .before .before .before in
     let coded = left .before in
     let a = coded .before .before .args in
     let long =
@@ -57,16 +34,13 @@ same-length c = omega arith
 
 returns-2 : tie.Need-returns-2
 returns-2 c =
-    let third = c .before .before in
-    let second = third .before .before .before .before in
-    let first = second .before .before .before .before .before in
-    let said = first .before .before in
-    let coded = said .before .before in
-    let start = coded .before .before in
-    let a = start .args in
-    entered (a .number) (a .event .process) (a .outcome) (coded .outcome-number .ensures) (said .before .if1 .left)
-    (a .ledger .now) (a .at) (start .pre .1) (said .outcome-message .ensures) (first .put-number .ensures)
-    (second .put-four .ensures) (third .put-number2 .ensures)
+    let put = c .before .before in
+    let said = put .before .before .before in
+    let left = said .before in
+    let coded = left .before in
+    let a = coded .before .before .args in
+    entered (a .number) (a .event .process) (a .outcome) (coded .outcome-number .ensures) (left .if1 .left)
+    (a .ledger .now) (a .at) (said .outcome-message .ensures) (put .put-record .ensures)
 
 pub enter-spec : {M : Type 1} → statement M
 enter-spec =
@@ -75,11 +49,7 @@ enter-spec =
     outcome-number-requires
     returns
     outcome-message-requires
-    put-number-requires
-    add-put-four
-    cast-put-four
-    put-four-requires
-    add-put-number
-    put-number-requires-2
+    cast-put-record
+    put-record-requires
     same-length
     returns-2)
