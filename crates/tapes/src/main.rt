@@ -27,6 +27,7 @@ mod outcome; // outcome.rt: what a call answered, in words
 mod trip; // trip.rt: a list written, read back and written again
 
 use attempt::attempt;
+use said::BLANK;
 use trip::trip;
 use words::place;
 use words::say;
@@ -36,9 +37,6 @@ ghost use lib.ListN.{length};
 
 // The length of every buffer: room for four blocks, one more than any tape here has.
 pub const ROOM: usize = 2048;
-
-// What a buffer's bytes are before a call.
-pub const BLANK: u8 = 170;
 
 // The most events: three blocks of them.
 pub const MOST_EVENTS: usize = 189;

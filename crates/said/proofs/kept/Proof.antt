@@ -3,8 +3,8 @@ use Prim.{tt}
 use Prim.Native.Nat.{_≤_, _-_}
 use native.Mathlib.Omega.{arith}
 use lib.ListN.{length}
-use Rattle.tapes.proofs.outcome.kept.Statement.{statement}
-use Rattle.tapes.proofs.outcome.kept.Tie as tie
+use Rattle.said.proofs.kept.Statement.{statement}
+use Rattle.said.proofs.kept.Tie as tie
 
 abbrev Inv-loop : tie.InvT-loop
 Inv-loop bytes from at₀ at = from ≤ at

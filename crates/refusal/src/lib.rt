@@ -1,0 +1,40 @@
+// A refusal's number and place, as the table has them. Document 01, "Where a call is turned down".
+use machine::Refusal;
+ghost use mathlib.Core.Path.{_≡_};
+ghost use Rattle.machine.specs.Refusals.{numberOf, placeOf};
+
+// Internal: the table's number, 1 to 10.
+pub fn number_of(refusal: Refusal) -> usize
+    ensures { λ r. ⌜ r ≡ numberOf refusal ⌝ }
+{
+    match refusal {
+        Refusal::Size => 1,
+        Refusal::Home => 2,
+        Refusal::Short => 3,
+        Refusal::Unsound => 4,
+        Refusal::Event(_) => 5,
+        Refusal::Length => 6,
+        Refusal::Check(_) => 7,
+        Refusal::Block(_) => 8,
+        Refusal::Unused(_) => 9,
+        Refusal::Output => 10,
+    }
+}
+
+// Internal: its place: the event's number for 5, the block's for 7, 8 and 9, else 0.
+pub fn place_of(refusal: Refusal) -> usize
+    ensures { λ r. ⌜ r ≡ placeOf refusal ⌝ }
+{
+    match refusal {
+        Refusal::Size => 0,
+        Refusal::Home => 0,
+        Refusal::Short => 0,
+        Refusal::Unsound => 0,
+        Refusal::Event(k) => k,
+        Refusal::Length => 0,
+        Refusal::Check(b) => b,
+        Refusal::Block(b) => b,
+        Refusal::Unused(b) => b,
+        Refusal::Output => 0,
+    }
+}
