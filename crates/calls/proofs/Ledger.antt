@@ -21,7 +21,7 @@ use Rattle.machine.proofs.Lists.{and-first, and-second}
 use Rattle.machine.proofs.Readback.{InRange, byte-here, number-here}
 use Rattle.machine.proofs.Kept.{length-applied, range-kept}
 use Rattle.machine.proofs.Runs.{fitting, fitting-process, fitting-message}
-use Rattle.machine.proofs.Tallies.{length-entry, records-add}
+use Rattle.machine.proofs.Tallies.{length-entry, records-more}
 use Rattle.calls.specs.Calls.{messageIf, recordMessage, ledgerMessages}
 use Rattle.calls.proofs.Messages.{outcome-small, messageOf, messagesFrom, filled-from, taken-from, unrecorded}
 
@@ -96,9 +96,7 @@ module _ (code : ℕ) (high : 2 ≤ code) (ledger : List ℕ) where
       let others : all (fitting (length (next .processes))) vs ≡ true =
       rw (length-applied st v) (and-second (fitting n v) _ fit) in
       let from-here : drop (12 * k) ledger ≡ entry ++ (later ++ rest) = stands ∙ append-assoc entry later rest in
-      let count : countsFrom noCounts st (v ∷ vs) .records ≡ bit (recorded o) + own =
-      omega (arith, records-add vs next (counted (v .code) o noCounts)) in
-      ap (messages k) count
+      ap (messages k) (records-more st v vs)
       ∙ entry-read k event (v .process) o (later ++ rest) own (outcome-small st v below message range) from-here
       ∙ ap (λ (l : List ℕ). messageOf code o ++ l)
       (records-read vs next (event + 1) (k + bit (recorded o)) rest (range-kept st v below message range) others

@@ -1,8 +1,8 @@
 -- Laws of verdicts: what an accepted input is known to have, and each way in which an image or a fresh ring is refused.
 -- Assumes nothing.
-use Prim.Native.Nat.{ℕ, _≤_, _<_}
+use Prim.Native.Nat.{ℕ, _+_, _≤_, _<_}
 use mathlib.Core.Path.{_≡_, refl}
-use mathlib.Core.Bool.{Bool, true, false, _&&_, _||_}
+use mathlib.Core.Bool.{Bool, true, false, _&&_}
 use mathlib.Core.List.{List}
 use native.Mathlib.Omega.{arith}
 use lib.ListN.{length, getD}
@@ -112,17 +112,23 @@ image-fine s e =
       fits = unless-fine (sound s) refusal.Unsound (second-fine c d from-c);
     }
 
--- an accepted event is at a process of the ring
+-- an event that fits is at a process of the ring
+pub fits-process : (codes n : ℕ) (s : List ℕ) (at : ℕ) → eventFits codes n s at ≡ true → getD s at 0 < n
+unfolding eventFits
+fits-process codes n s at fits =
+    let process = ltb (getD s at 0) n in
+    let code = ltb (getD s (at + 1) 0) codes in
+    let spare = zeros s (at + 2) 2 in
+    ltb-true (getD s at 0) n
+    (and-first process code (and-first (process && code) spare (and-first (process && code && spare) _ fits)))
+
+-- and so is an accepted one
 pub event-below : (n : ℕ) (s : List ℕ) → eventVerdict codes n s ≡ Fine → eventIn s 0 .process < n
-unfolding eventVerdict eventFits eventIn
+unfolding eventVerdict eventIn
 event-below n s e =
-    let process = ltb (getD s 0 0) n in
-    let code = ltb (getD s 1 0) codes in
-    let spare = zeros s 2 2 in
-    let message = eqb (getD s 1 0) 0 || zeros s 4 4 in
-    let fits = and-second (eqb (length s) 8) _ (unless-fine _ (refusal.Event 0) e) in
-    ltb-true _ n
-    (and-first process code (and-first (process && code) spare (and-first (process && code && spare) message fits)))
+    let fits = eventFits codes n s 0 in
+    fits-process codes n s 0
+    (and-second (eqb (length s) 8) fits (unless-fine (eqb (length s) 8 && fits) (refusal.Event 0) e))
 
 -- ---- each way through the tests of an image
 

@@ -87,18 +87,24 @@ module _ (number process : ℕ) (o : Outcome) where
       by-test true = length-record
       by-test false = refl
 
+-- an event's own record, and those of the events after it
+pub records-more : (st : State) (v : Event) (vs : List Event)
+    → countsFrom noCounts st (v ∷ vs) .records
+    ≡ bit (recorded (outcome st v)) + countsFrom noCounts (apply st v) vs .records
+unfolding countsFrom counted
+records-more st v vs = omega (arith, records-add vs (apply st v) (counted (v .code) (outcome st v) noCounts))
+
 -- so the ledger has 12 bytes for each record counted
 pub length-ledger : (vs : List Event) (number : ℕ) (st : State)
     → length (ledgerFrom number st vs) ≡ 12 * countsFrom noCounts st vs .records
-unfolding ledgerFrom countsFrom counted
+unfolding ledgerFrom countsFrom
 length-ledger [] number st = refl
 length-ledger (v ∷ vs) number st =
     let o = outcome st v in
-    let one = counted (v .code) o noCounts in
     length-append (ledgerEntry number (v .process) o) (ledgerFrom (number + 1) (apply st v) vs)
     ∙ omega (
       arith,
       length-entry number (v .process) o,
       length-ledger vs (number + 1) (apply st v),
-      records-add vs (apply st v) one,
+      records-more st v vs,
     )

@@ -15,10 +15,10 @@ use Rattle.machine.specs.Run.{recorded, countsFrom}
 use Rattle.machine.specs.Answers.{runEvents, runRecords}
 use Rattle.machine.proofs.Bits.{bit-le}
 use Rattle.machine.proofs.Bytes.{lt-or-ge}
-use Rattle.machine.proofs.Tallies.{length-ledger}
+use Rattle.machine.proofs.Tallies.{records-more, length-ledger}
 use Rattle.tape.proofs.Events.{length-events}
 use Rattle.play.specs.Playable.{Playable}
-use Rattle.measure.proofs.Tallied.{recordsFrom, records-more}
+use Rattle.measure.proofs.Tallied.{recordsFrom}
 
 -- an event has at most one record
 records-few : (vs : List rule.Event) (st : State) → recordsFrom st vs ≤ length vs

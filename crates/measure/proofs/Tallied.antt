@@ -4,33 +4,22 @@ use Prim.Native.Nat.{ℕ, _+_, _≤_, _<_}
 use mathlib.Core.Path.{_≡_, sym, ap, _∙_}
 use mathlib.Core.List.{List, [], _∷_}
 use native.Mathlib.Omega.{arith}
-use lib.ListN.{length}
-use lib.Seq.{drop-length}
 use Rattle.machine.specs.declared.Outcome.{Outcome}
 use Rattle.machine.specs.Bytes.{Bytes, bit}
 use Rattle.machine.specs.Image.{State, stateIn, imageWith}
 use Rattle.machine.specs.Events as rule
-use Rattle.machine.specs.Run.{recorded, noCounts, counted, countsFrom}
+use Rattle.machine.specs.Run.{recorded, noCounts, countsFrom}
 use Rattle.machine.specs.Answers.{runEvents}
 use Rattle.machine.proofs.Bits.{bit-le}
-use Rattle.machine.proofs.Tallies.{records-add}
+use Rattle.machine.proofs.Tallies.{records-more}
 use Rattle.event.specs.declared.Event.{Event}
 use Rattle.event.specs.Parsed.{eventOf, ruled}
-use Rattle.tape.proofs.Events.{length-events}
 use Rattle.play.specs.Playable.{Playable}
-use Rattle.play.proofs.Held.{eventAt, left, Held, held-start, next-left, continues, held-on}
+use Rattle.play.proofs.Held.{eventAt, left, Held, held-start, left-none, next-left, continues, held-on}
 
 -- how many records events have from a state on
 abbrev pub recordsFrom : State → List rule.Event → ℕ
 recordsFrom st vs = countsFrom noCounts st vs .records
-
--- an event's own record, and those of the events after it
-pub records-more : (st : State) (v : rule.Event) (vs : List rule.Event)
-    → recordsFrom st (v ∷ vs) ≡ bit (recorded (rule.outcome st v)) + recordsFrom (rule.apply st v) vs
-unfolding countsFrom counted
-records-more st v vs =
-    let o = rule.outcome st v in
-    omega (arith, records-add vs (rule.apply st v) (counted (v .code) o noCounts))
 
 -- after k events, with r records so far
 pub record Tallied (s₀ tape s : List ℕ) (r k : ℕ) : Type 0 where
@@ -64,6 +53,5 @@ module _ {s₀ tape : List ℕ} {total : ℕ} (ready : Playable s₀ tape total)
       → r ≡ recordsFrom (stateIn s₀) (runEvents tape)
   unfolding countsFrom
   tallied-end {s} {r} k t end =
-      let none : left tape k ≡ [] = rw (end, ready .counted, ← length-events tape) (drop-length (runEvents tape)) in
-      let nothing : recordsFrom (stateIn s) (left tape k) ≡ 0 = rw none in
+      let nothing : recordsFrom (stateIn s) (left tape k) ≡ 0 = rw (left-none ready k end) in
       omega (arith, t .sum, nothing)

@@ -5,7 +5,6 @@ use mathlib.Core.Path.{_≡_, refl, sym, ap, _∙_}
 use mathlib.Core.List.{List, [], _++_}
 use native.Mathlib.Omega.{arith}
 use lib.ListN.{length, length-append}
-use lib.Seq.{drop-length}
 use Rattle.machine.specs.declared.Counts.{Counts}
 use Rattle.machine.specs.Bytes.{Bytes, splice}
 use Rattle.machine.specs.Image.{State, stateIn, imageWith}
@@ -17,11 +16,10 @@ use Rattle.machine.proofs.Kept.{imageAfter}
 use Rattle.machine.proofs.Runs.{events-left, none-left}
 use Rattle.machine.proofs.Tallies.{length-entry}
 use Rattle.span.proofs.Laws.{splice-none}
-use Rattle.tape.proofs.Events.{length-events}
 use Rattle.ledger.specs.Bounds.{NoneAbove}
 use Rattle.ledger.proofs.Bounds.{none-above-start, counted-above}
 use Rattle.play.specs.Playable.{Playable}
-use Rattle.play.proofs.Held.{eventAt, left, Held, held-start, next-left, fits, continues, held-on}
+use Rattle.play.proofs.Held.{eventAt, left, Held, held-start, left-none, next-left, fits, continues, held-on}
 
 -- after k events of a run on s₀ and l₀: the image s, the ledger l, the counts c
 pub record Going (s₀ tape l₀ s l : List ℕ) (c : Counts) (k : ℕ) : Type 0 where
@@ -117,7 +115,7 @@ module _ {s₀ tape l₀ : List ℕ} {total : ℕ} (ready : Playable s₀ tape t
 
   module _ {s l : List ℕ} {c : Counts} (k : ℕ) (g : Going s₀ tape l₀ s l c k) (end : k ≡ total) where
     none : left tape k ≡ []
-    none = rw (end, ready .counted, ← length-events tape) (drop-length (runEvents tape))
+    none = left-none ready k end
 
     pub played : (c ≡ countsFrom noCounts (stateIn s₀) (runEvents tape))
         × ((s ≡ imageWith s₀ (after (stateIn s₀) (runEvents tape))) × (l ≡ splice l₀ 0 (runRecords s₀ tape)))

@@ -3,9 +3,10 @@
 use Prim.Native.Nat.{ℕ, _+_, _-_, _/_, _%_, _≤_, _<_}
 use mathlib.Core.Path.{_≡_, refl, _∙_}
 use mathlib.Core.Bool.{true}
-use mathlib.Core.List.{List, _∷_}
+use mathlib.Core.List.{List, [], _∷_}
 use native.Mathlib.Omega.{arith}
 use lib.ListN.{length, drop}
+use lib.Seq.{drop-length}
 use Rattle.machine.specs.declared.Verdict.the-variants.{Fine}
 use Rattle.machine.specs.Bytes.{Bytes}
 use Rattle.machine.specs.Image.{sizeIn, stateIn}
@@ -56,6 +57,10 @@ module _ {s₀ tape : List ℕ} {total : ℕ} (ready : Playable s₀ tape total)
         fine .blocks last (omega (arith, fine .some)) .most,
         length-list tape fine,
       )
+
+  -- after all of them none is left
+  pub left-none : (k : ℕ) → k ≡ total → left tape k ≡ []
+  left-none k end = rw (end, ready .counted, ← events.length-events tape) (drop-length (runEvents tape))
 
   module _ (k : ℕ) (next : k < total) where
     -- event k is on the tape

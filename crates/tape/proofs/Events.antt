@@ -2,7 +2,7 @@
 -- process of the ring, and its message has 32 bits. Assumes nothing.
 use Prim.Native.Nat.{ℕ, _+_, _*_, _/_, _%_, _^_, _<_}
 use mathlib.Core.Path.{_≡_, ap, _∙_}
-use mathlib.Core.Bool.{true, _&&_}
+use mathlib.Core.Bool.{true}
 use mathlib.Core.List.{List, _∷_}
 use native.Mathlib.Omega.{arith}
 use native.Mathlib.Numerals.{add-one}
@@ -11,14 +11,15 @@ use lib.Seq.{drop-cons}
 use lib.Dec.{ltb}
 use borrow.Author.Tests.{lt-ltb}
 use Rattle.machine.specs.declared.Verdict.the-variants.{Fine}
-use Rattle.machine.specs.Bytes.{Bytes, zeros}
+use Rattle.machine.specs.Bytes.{Bytes}
 use Rattle.machine.specs.Lists.{all}
 use Rattle.machine.specs.Events.{Event}
 use Rattle.machine.specs.Tape.{eventIn, eventsIn, slotAt, listOf}
-use Rattle.machine.specs.Refusals.{eventFits, tapeVerdict}
+use Rattle.machine.specs.Refusals.{tapeVerdict}
 use Rattle.machine.specs.Answers.{runEvents}
 use Rattle.machine.proofs.Bytes.{number-lt}
-use Rattle.machine.proofs.Lists.{and-first, length-tabulate, getD-tabulate, all-each}
+use Rattle.machine.proofs.Refusals.{fits-process}
+use Rattle.machine.proofs.Lists.{length-tabulate, getD-tabulate, all-each}
 use Rattle.machine.proofs.Runs.{fitting}
 use Rattle.blocks.specs.Counted.{eventsOn}
 use Rattle.blocks.proofs.Blocks.{TapeFine, tape-fine}
@@ -32,15 +33,6 @@ nobody = record { process = 0; code = 0; message = 0 }
 pub length-events : (s : List ℕ) → length (runEvents s) ≡ eventsOn s
 unfolding runEvents eventsIn
 length-events s = length-tabulate (λ k. eventIn (listOf s) (8 * k)) 0 (eventsOn s)
-
--- an event that fits is at a process of the ring
-fits-process : (codes n : ℕ) (s : List ℕ) (at : ℕ) → eventFits codes n s at ≡ true → ltb (getD s at 0) n ≡ true
-unfolding eventFits
-fits-process codes n s at h =
-    let process = ltb (getD s at 0) n in
-    let code = ltb (getD s (at + 1) 0) codes in
-    let spare = zeros s (at + 2) 2 in
-    and-first process code (and-first (process && code) spare (and-first (process && code && spare) _ h))
 
 module _ (codes n : ℕ) (s : List ℕ) (accepted : tapeVerdict codes n s ≡ Fine) where
   -- what the tape has
@@ -68,7 +60,7 @@ module _ (codes n : ℕ) (s : List ℕ) (accepted : tapeVerdict codes n s ≡ Fi
       let at = slotAt (k / 63) (k % 63) in
       let placed = event-placed s tape k h in
       rw (
-        fits-process codes n s at (tape .blocks (k / 63) (placed .block) .events (k % 63) (placed .slot)),
+        lt-ltb _ n (fits-process codes n s at (tape .blocks (k / 63) (placed .block) .events (k % 63) (placed .slot))),
         lt-ltb _ (2 ^ 32) (number-lt s (at + 4) small),
       )
 
