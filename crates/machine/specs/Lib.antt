@@ -14,3 +14,4 @@ pub mod Balance
 pub mod Tape
 pub mod Refusals
 pub mod Answers
+pub mod Host
