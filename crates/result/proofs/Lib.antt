@@ -1,0 +1,3 @@
+-- Laws of the result slice.
+pub mod Words
+pub mod Told

@@ -1,0 +1,80 @@
+-- What a call of the suite's host returns and leaves, by the length of its result slice, whatever the call's own answer
+-- is. With a slice of at least 80 bytes it is the answer's number and its values; with a shorter one the call's tests
+-- alone decide, and every slice stays. Assumes nothing.
+use Prim.Native.Nat.{ℕ, _-_, _≤_, _<_}
+use mathlib.Core.Path.{_≡_, refl, sym, ap, _∙_}
+use mathlib.Core.Bool.{Bool, true, false, not, cond, _&&_, and-false}
+use mathlib.Core.List.{List, [], _∷_, _++_}
+use native.Mathlib.Omega.{arith}
+use lib.ListN.{length, replicate}
+use lib.Dec.{eqb, leb, lit≤}
+use borrow.Author.Tests.{le-leb, lt-leb, ne-eqb}
+use Rattle.machine.specs.declared.Refusal.{Refusal}
+use Rattle.machine.specs.declared.Verdict.{Verdict}
+use Rattle.machine.specs.declared.Verdict.the-variants.{Fine, Refused}
+use Rattle.machine.specs.Bytes.{splice}
+use Rattle.machine.specs.Refusals.{numberOf, placeOf}
+use Rattle.machine.specs.Answers.{Answer, answer}
+use Rattle.machine.specs.Host.{takesResult, returned, wordsOf, resultBytes, resultAfter, lentWith}
+use Rattle.machine.proofs.Refusals.{number-range}
+use Rattle.result.specs.Short.{tooShort}
+use Rattle.result.proofs.Words.{told-in-ten}
+
+-- what a call whose answer is a returns and leaves in its result slice
+abbrev pub Tells : Answer → List ℕ → ℕ → List ℕ → Type 0
+Tells a result n t = (n ≡ returned a result) × (t ≡ resultAfter a result)
+
+-- ---- at least 80 bytes
+
+-- a place, and nine words of 0
+pub place-told : (result : List ℕ) {t : List ℕ} (place : ℕ) → t ≡ splice result 0 (wordsOf (place ∷ replicate 9 0))
+    → t ≡ splice result 0 (resultBytes (place ∷ []))
+place-told result place wrote = wrote ∙ rw (told-in-ten (place ∷ []) (lit≤ tt))
+
+module _ (result : List ℕ) (room : 80 ≤ length result) where
+  takes : takesResult result ≡ true
+  takes = le-leb 80 (length result) room
+
+  -- other slices are as the call leaves them
+  pub lent-as-left : (before : List ℕ) {t done : List ℕ} → t ≡ done → t ≡ lentWith result before done
+  unfolding lentWith
+  lent-as-left before left = rw takes left
+
+  -- the number, and the values
+  answered : (a : Answer) {t : List ℕ} → t ≡ splice result 0 (resultBytes (a .values)) → Tells a result (a .number) t
+  unfolding returned resultAfter
+  answered a wrote = (rw (takes, and-false (eqb (a .number) 0)), rw takes wrote)
+
+  -- done, with up to ten values
+  pub done-told : {a : Answer} {t : List ℕ} (values : List ℕ) → length values ≤ 10 → answer Fine values ≡ a
+      → t ≡ splice result 0 (wordsOf (values ++ replicate (10 - length values) 0))
+      → Tells a result 0 t
+  done-told values few is wrote = rw (← is) (answered (answer Fine values) (wrote ∙ rw (told-in-ten values few)))
+
+  -- refused, with its place
+  pub refused-told : {a : Answer} {n : ℕ} {t : List ℕ} (r : Refusal) → answer (Refused r) [] ≡ a → n ≡ numberOf r
+      → t ≡ splice result 0 (resultBytes (placeOf r ∷ []))
+      → Tells a result n t
+  refused-told r is number wrote = rw (← is, number) (answered (answer (Refused r) []) wrote)
+
+-- ---- fewer
+
+module _ (result : List ℕ) (short : length result < 80) where
+  leaves : takesResult result ≡ false
+  leaves = lt-leb 80 (length result) short
+
+  pub lent-untouched : (before done : List ℕ) → before ≡ lentWith result before done
+  unfolding lentWith
+  lent-untouched before done = rw leaves
+
+  number-short : (v : Verdict) (values : List ℕ) → numberOf (tooShort v) ≡ returned (answer v values) result
+  unfolding returned
+  number-short Fine values = rw leaves
+  number-short (Refused r) values =
+      let some : eqb (numberOf r) 0 ≡ false = ne-eqb (numberOf r) 0 (λ none. omega (arith, number-range r .0)) in
+      rw some
+
+  pub short-told : {n : ℕ} (v : Verdict) (values : List ℕ) → n ≡ numberOf (tooShort v)
+      → Tells (answer v values) result n result
+  unfolding resultAfter
+  short-told v values number = (number ∙ number-short v values, rw leaves)

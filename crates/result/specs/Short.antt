@@ -1,0 +1,11 @@
+-- Why a call is refused whose result slice is too short: document 01, "The tape": the call is then 10 if nothing else
+-- refuses it. Assumes nothing.
+use Rattle.machine.specs.declared.Refusal.{Refusal}
+use Rattle.machine.specs.declared.Refusal.the-variants as refusal
+use Rattle.machine.specs.declared.Verdict.{Verdict}
+use Rattle.machine.specs.declared.Verdict.the-variants.{Fine, Refused}
+
+-- by the verdict of its other tests
+abbrev pub tooShort : Verdict → Refusal
+tooShort Fine = refusal.Output
+tooShort (Refused r) = r
