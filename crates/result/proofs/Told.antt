@@ -1,13 +1,13 @@
 -- What a call of the suite's host returns and leaves, by the length of its result slice, whatever the call's own answer
 -- is. With a slice of at least 80 bytes it is the answer's number and its values; with a shorter one the call's tests
 -- alone decide, and every slice stays. Assumes nothing.
-use Prim.Native.Nat.{ℕ, _-_, _≤_, _<_}
-use mathlib.Core.Path.{_≡_, refl, sym, ap, _∙_}
-use mathlib.Core.Bool.{Bool, true, false, not, cond, _&&_, and-false}
-use mathlib.Core.List.{List, [], _∷_, _++_}
+use Prim.Native.Nat.{ℕ, _≤_, _<_}
+use mathlib.Core.Path.{_≡_, _∙_}
+use mathlib.Core.Bool.{true, false, and-false}
+use mathlib.Core.List.{List, [], _∷_}
 use native.Mathlib.Omega.{arith}
-use lib.ListN.{length, replicate}
-use lib.Dec.{eqb, leb, lit≤}
+use lib.ListN.{length}
+use lib.Dec.{eqb}
 use borrow.Author.Tests.{le-leb, lt-leb, ne-eqb}
 use Rattle.machine.specs.declared.Refusal.{Refusal}
 use Rattle.machine.specs.declared.Verdict.{Verdict}
@@ -15,21 +15,15 @@ use Rattle.machine.specs.declared.Verdict.the-variants.{Fine, Refused}
 use Rattle.machine.specs.Bytes.{splice}
 use Rattle.machine.specs.Refusals.{numberOf, placeOf}
 use Rattle.machine.specs.Answers.{Answer, answer}
-use Rattle.machine.specs.Host.{takesResult, returned, wordsOf, resultBytes, resultAfter, lentWith}
+use Rattle.machine.specs.Host.{takesResult, returned, resultBytes, resultAfter, lentWith}
 use Rattle.machine.proofs.Refusals.{number-range}
 use Rattle.result.specs.Short.{tooShort}
-use Rattle.result.proofs.Words.{told-in-ten}
 
 -- what a call whose answer is a returns and leaves in its result slice
 abbrev pub Tells : Answer → List ℕ → ℕ → List ℕ → Type 0
 Tells a result n t = (n ≡ returned a result) × (t ≡ resultAfter a result)
 
 -- ---- at least 80 bytes
-
--- a place, and nine words of 0
-pub place-told : (result : List ℕ) {t : List ℕ} (place : ℕ) → t ≡ splice result 0 (wordsOf (place ∷ replicate 9 0))
-    → t ≡ splice result 0 (resultBytes (place ∷ []))
-place-told result place wrote = wrote ∙ rw (told-in-ten (place ∷ []) (lit≤ tt))
 
 module _ (result : List ℕ) (room : 80 ≤ length result) where
   takes : takesResult result ≡ true
@@ -45,11 +39,11 @@ module _ (result : List ℕ) (room : 80 ≤ length result) where
   unfolding returned resultAfter
   answered a wrote = (rw (takes, and-false (eqb (a .number) 0)), rw takes wrote)
 
-  -- done, with up to ten values
-  pub done-told : {a : Answer} {t : List ℕ} (values : List ℕ) → length values ≤ 10 → answer Fine values ≡ a
-      → t ≡ splice result 0 (wordsOf (values ++ replicate (10 - length values) 0))
+  -- done, with its values
+  pub done-told : {a : Answer} {t : List ℕ} (values : List ℕ) → answer Fine values ≡ a
+      → t ≡ splice result 0 (resultBytes values)
       → Tells a result 0 t
-  done-told values few is wrote = rw (← is) (answered (answer Fine values) (wrote ∙ rw (told-in-ten values few)))
+  done-told values is wrote = rw (← is) (answered (answer Fine values) wrote)
 
   -- refused, with its place
   pub refused-told : {a : Answer} {n : ℕ} {t : List ℕ} (r : Refusal) → answer (Refused r) [] ≡ a → n ≡ numberOf r

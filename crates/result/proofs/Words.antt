@@ -5,12 +5,12 @@ use mathlib.Core.Path.{_≡_, refl, sym, ap, _∙_}
 use mathlib.Core.List.{List, [], _∷_, _++_, append-assoc}
 use native.Mathlib.Omega.{arith}
 use native.Mathlib.Numerals.{add-one}
-use lib.ListN.{length, getD, drop, replicate, length-append, length-replicate, replicate-append-replicate}
+use lib.ListN.{length, getD, drop, replicate, length-append, replicate-append-replicate}
 use lib.Seq.{drop-cons, drop-length}
 use lib.Pow.{shr-shr, mod-mod-pow, field}
 use Rattle.machine.specs.Bytes.{bytes, splice}
 use Rattle.machine.specs.Host.{wordsOf, resultBytes}
-use Rattle.machine.proofs.Bytes.{length-bytes, length-splice, splice-next}
+use Rattle.machine.proofs.Bytes.{length-bytes, splice-next}
 use Rattle.span.proofs.Laws.{splice-none}
 
 -- ---- one word
@@ -82,9 +82,14 @@ module _ (s ws : List ℕ) (k : ℕ) where
 -- ---- what a call tells
 
 -- up to ten values, and words of 0 up to the tenth
-pub told-in-ten : (values : List ℕ) → length values ≤ 10
-    → resultBytes values ≡ wordsOf (values ++ replicate (10 - length values) 0)
+values-in-ten : (values : List ℕ) → length values ≤ 10
+    → wordsOf (values ++ replicate (10 - length values) 0) ≡ resultBytes values
 unfolding resultBytes
-told-in-ten values few =
+values-in-ten values few =
     let rest : 80 - length (wordsOf values) ≡ 8 * (10 - length values) = omega (arith, length-words values) in
     rw (rest, words-append values (replicate (10 - length values) 0), words-of-zero (10 - length values))
+
+pub told-in-ten : (result values : List ℕ) {t : List ℕ} → length values ≤ 10
+    → t ≡ splice result 0 (wordsOf (values ++ replicate (10 - length values) 0))
+    → t ≡ splice result 0 (resultBytes values)
+told-in-ten result values few wrote = wrote ∙ ap (splice result 0) (values-in-ten values few)

@@ -34,14 +34,21 @@ pub fn tell(result: &mut [u8], words: &[u64; 10])
     }
 }
 
+// Internal: one value, and words of 0 after it.
+pub fn tell_one(result: &mut [u8], value: u64)
+    requires { ⌜ 80 ≤ length (now result) ⌝ }
+    ensures { λ _. ⌜ now (result .exit) ≡ splice (now (result .entry)) 0 (resultBytes (value ∷ [])) ⌝ }
+{
+    let words = [value, 0, 0, 0, 0, 0, 0, 0, 0, 0];
+    tell(result, &words);
+}
+
 // Internal: a refusal handed on: its place told, its number returned.
 pub fn refused(result: &mut [u8], refusal: Refusal) -> u64
     requires { ⌜ 80 ≤ length (now result) ⌝ }
     ensures number { λ r. ⌜ r ≡ numberOf refusal ⌝ }
     ensures told { λ _. ⌜ now (result .exit) ≡ splice (now (result .entry)) 0 (resultBytes (placeOf refusal ∷ [])) ⌝ }
 {
-    let place = place_of(refusal) as u64;
-    let words = [place, 0, 0, 0, 0, 0, 0, 0, 0, 0];
-    tell(result, &words);
+    tell_one(result, place_of(refusal) as u64);
     number_of(refusal) as u64
 }

@@ -1,16 +1,13 @@
--- The place is the first of the ten words, and the number is the table's. Assumes nothing.
-use mathlib.Core.Path.{_∙_}
+-- Place and number are the table's. Assumes nothing.
 use native.Mathlib.Omega.{arith}
-use borrow.Author.Needs.{needs}
-use Rattle.result.proofs.Told.{place-told}
 use Rattle.result.proofs.refused.Statement.{statement}
 use Rattle.result.proofs.refused.Tie as tie
 
 place-of-requires : tie.Need-place-of-requires
 place-of-requires c κs = tt
 
-tell-requires : tie.Need-tell-requires
-tell-requires c κs = search needs
+tell-one-requires : tie.Need-tell-one-requires
+tell-one-requires c κs = omega arith
 
 number-of-requires : tie.Need-number-of-requires
 number-of-requires c κs = tt
@@ -21,10 +18,8 @@ same-length c = omega arith
 returns : tie.Need-returns
 returns c =
     let d = c .before .before .before in
-    let p = d .before .before .before in
-    let a = p .before .before .args in
-    (c .number-of .ensures, rw (← p .place-of .ensures) (place-told (a .result .now) (p .place-of .result) (d .tell .ensures)))
+    (c .number-of .ensures, rw (← d .before .place-of .ensures) (d .tell-one .ensures))
 
 pub refused-spec : {M : Type 1} → statement M
 refused-spec =
-    tie.close (tie.spec place-of-requires tell-requires number-of-requires same-length returns)
+    tie.close (tie.spec place-of-requires tell-one-requires number-of-requires same-length returns)
