@@ -1,0 +1,73 @@
+-- Each refusal is the rule's first; past both tests it is 10. Assumes nothing.
+use mathlib.Core.Path.{_∙_}
+use native.Mathlib.Omega.{arith}
+use Rattle.machine.specs.Image.{sizeIn}
+use Rattle.machine.specs.Refusals.{codes, tapeVerdict}
+use Rattle.ring_host.proofs.Short.{image-refuses-first, tape-refuses, tape-passes}
+use Rattle.ring_host.proofs.short_run.Statement.{statement}
+use Rattle.ring_host.proofs.short_run.Tie as tie
+
+of-requires : tie.Need-of-requires
+of-requires c κs = tt
+
+enum-known-checked : tie.Need-enum-known-checked
+enum-known-checked c = omega arith
+
+enum-known-checked-2 : tie.Need-enum-known-checked-2
+enum-known-checked-2 c = omega arith
+
+enum-known-checked-3 : tie.Need-enum-known-checked-3
+enum-known-checked-3 c = omega arith
+
+enum-told : tie.Need-enum-told
+enum-told c = omega arith
+
+returns : tie.Need-returns
+returns c = absurd (omega arith)
+
+returns-2 : tie.Need-returns-2
+returns-2 c = 
+    let i = c .before .before .before .before .before .before in
+    let a = i .before .before .before .args in
+    image-refuses-first (a .image .now) (i .of .ensures) (tapeVerdict codes (sizeIn (a .image .now)) (a .tape .now))
+    (c .before .before .before .before .checked2 .given .1 ∙ c .before .checked3 .given .1)
+
+of-requires-2 : tie.Need-of-requires-2
+of-requires-2 c κs = tt
+
+enum-known-counted : tie.Need-enum-known-counted
+enum-known-counted c = omega arith
+
+enum-told-2 : tie.Need-enum-told-2
+enum-told-2 c = omega arith
+
+returns-3 : tie.Need-returns-3
+returns-3 c = 
+    let i = c .before .before .before .before .before .before in
+    let a = i .before .before .before .args in
+    tape-passes (a .image .now) (i .of .ensures) (c .before .before .before .before .checked .given .1) (a .tape .now)
+    (c .before .before .of2 .ensures) (c .enum-told2 .given .1)
+
+returns-4 : tie.Need-returns-4
+returns-4 c = 
+    let i = c .before .before .before .before .before .before .before in
+    let a = i .before .before .before .args in
+    tape-refuses (a .image .now) (i .of .ensures) (c .before .before .before .before .before .checked .given .1) (a .tape .now)
+    (c .before .before .before .of2 .ensures) (c .before .counted .given .1)
+
+pub short-run-spec : {M : Type 1} → statement M
+short-run-spec =
+    tie.close
+    (tie.spec
+    of-requires
+    enum-known-checked
+    enum-known-checked-2
+    enum-known-checked-3
+    enum-told
+    returns
+    returns-2
+    of-requires-2
+    enum-known-counted
+    enum-told-2
+    returns-3
+    returns-4)
