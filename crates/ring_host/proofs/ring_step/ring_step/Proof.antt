@@ -3,8 +3,8 @@ use mathlib.Core.Path.{_∙_}
 use borrow.Author.Needs.{needs}
 use native.Mathlib.Omega.{arith}
 use Rattle.ring_host.proofs.Ways.{step-short, step-refused, step-done}
-use Rattle.ring_host.proofs.ring_step.Statement.{statement}
-use Rattle.ring_host.proofs.ring_step.Tie as tie
+use Rattle.ring_host.proofs.ring_step.ring_step.Statement.{statement}
+use Rattle.ring_host.proofs.ring_step.ring_step.Tie as tie
 
 short-step-requires : tie.Need-short-step-requires
 short-step-requires c κs = tt
@@ -16,7 +16,7 @@ same-length : tie.Need-same-length
 same-length c = omega arith
 
 returns : tie.Need-returns
-returns c = 
+returns c =
     let a = c .before .before .before .before .before .before .before .args in
     step-short (a .image .now) (a .event .now) (a .result .now) (omega arith) (c .before .short-step .ensures)
     (c .number-of .ensures)
@@ -52,7 +52,7 @@ same-length-4 : tie.Need-same-length-4
 same-length-4 c = omega arith
 
 returns-3 : tie.Need-returns-3
-returns-3 c = 
+returns-3 c =
     let s = c .before .before .before .before .before .before .before .before .before .before .before .before in
     let a = s .before .before .before .before .before .before .args in
     step-refused (a .image .now) (a .event .now) (a .result .now) (omega arith) (s .step .ensures .1) (s .step .ensures .0)
@@ -81,7 +81,7 @@ same-length-6 : tie.Need-same-length-6
 same-length-6 c = omega arith
 
 returns-4 : tie.Need-returns-4
-returns-4 c = 
+returns-4 c =
     let s = c .before .before .before .before .before .before .before .before .before .before .before .before in
     let a = s .before .before .before .before .before .before .args in
     step-done (a .image .now) (a .event .now) (a .result .now) (omega arith) (s .step .ensures .1) (s .step .ensures .0)

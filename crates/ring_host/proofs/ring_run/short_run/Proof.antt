@@ -4,8 +4,8 @@ use native.Mathlib.Omega.{arith}
 use Rattle.machine.specs.Image.{sizeIn}
 use Rattle.machine.specs.Refusals.{codes, tapeVerdict}
 use Rattle.ring_host.proofs.Short.{image-refuses-first, tape-refuses, tape-passes}
-use Rattle.ring_host.proofs.short_run.Statement.{statement}
-use Rattle.ring_host.proofs.short_run.Tie as tie
+use Rattle.ring_host.proofs.ring_run.short_run.Statement.{statement}
+use Rattle.ring_host.proofs.ring_run.short_run.Tie as tie
 
 of-requires : tie.Need-of-requires
 of-requires c κs = tt
@@ -26,7 +26,7 @@ returns : tie.Need-returns
 returns c = absurd (omega arith)
 
 returns-2 : tie.Need-returns-2
-returns-2 c = 
+returns-2 c =
     let i = c .before .before .before .before .before .before in
     let a = i .before .before .before .args in
     image-refuses-first (a .image .now) (i .of .ensures) (tapeVerdict codes (sizeIn (a .image .now)) (a .tape .now))
@@ -42,14 +42,14 @@ enum-told-2 : tie.Need-enum-told-2
 enum-told-2 c = omega arith
 
 returns-3 : tie.Need-returns-3
-returns-3 c = 
+returns-3 c =
     let i = c .before .before .before .before .before .before in
     let a = i .before .before .before .args in
     tape-passes (a .image .now) (i .of .ensures) (c .before .before .before .before .checked .given .1) (a .tape .now)
     (c .before .before .of2 .ensures) (c .enum-told2 .given .1)
 
 returns-4 : tie.Need-returns-4
-returns-4 c = 
+returns-4 c =
     let i = c .before .before .before .before .before .before .before in
     let a = i .before .before .before .args in
     tape-refuses (a .image .now) (i .of .ensures) (c .before .before .before .before .before .checked .given .1) (a .tape .now)

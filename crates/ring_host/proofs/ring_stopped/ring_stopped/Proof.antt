@@ -2,8 +2,8 @@
 use mathlib.Core.Logic.{⊎-elim}
 use native.Mathlib.Omega.{arith}
 use Rattle.ring_host.proofs.Ways.{stopped-short, stopped-refused, stopped-yes, stopped-no}
-use Rattle.ring_host.proofs.ring_stopped.Statement.{statement}
-use Rattle.ring_host.proofs.ring_stopped.Tie as tie
+use Rattle.ring_host.proofs.ring_stopped.ring_stopped.Statement.{statement}
+use Rattle.ring_host.proofs.ring_stopped.ring_stopped.Tie as tie
 
 short-stopped-requires : tie.Need-short-stopped-requires
 short-stopped-requires c κs = tt
@@ -12,7 +12,7 @@ number-of-requires : tie.Need-number-of-requires
 number-of-requires c κs = tt
 
 returns : tie.Need-returns
-returns c = 
+returns c =
     let a = c .before .before .before .before .before .args in
     stopped-short (a .image .now) (a .result .now) (omega arith) (c .before .short-stopped .ensures) (c .number-of .ensures)
 
@@ -41,7 +41,7 @@ same-length : tie.Need-same-length
 same-length c = omega arith
 
 returns-3 : tie.Need-returns-3
-returns-3 c = 
+returns-3 c =
     let s = c .before .before .before .before .before .before .before .before .before in
     let a = s .before .before .before .before .args in
     stopped-refused (a .image .now) (a .result .now) (omega arith) (s .stopped .ensures) _ (c .before .before .before .before .before .answer .given .1)
@@ -54,7 +54,7 @@ same-length-2 : tie.Need-same-length-2
 same-length-2 c = omega arith
 
 returns-4 : tie.Need-returns-4
-returns-4 c = 
+returns-4 c =
     let s = c .before .before .before .before .before .before .before in
     let a = s .before .before .before .before .args in
     stopped-no (a .image .now) (a .result .now) (omega arith) (s .stopped .ensures) (c .before .before .before .before .enum-told2 .given .1)
@@ -67,7 +67,7 @@ same-length-3 : tie.Need-same-length-3
 same-length-3 c = omega arith
 
 returns-5 : tie.Need-returns-5
-returns-5 c = 
+returns-5 c =
     let s = c .before .before .before .before .before .before in
     let a = s .before .before .before .before .args in
     stopped-yes (a .image .now) (a .result .now) (omega arith) (s .stopped .ensures) (c .before .before .before .before .enum-told .given .1)

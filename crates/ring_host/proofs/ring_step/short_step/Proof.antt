@@ -5,8 +5,8 @@ use Rattle.machine.specs.Image.{sizeIn}
 use Rattle.machine.specs.Refusals.{codes, eventVerdict}
 use Rattle.machine.specs.Answers.{stepVerdict}
 use Rattle.ring_host.proofs.Short.{image-refuses-first, event-refuses, event-passes}
-use Rattle.ring_host.proofs.short_step.Statement.{statement}
-use Rattle.ring_host.proofs.short_step.Tie as tie
+use Rattle.ring_host.proofs.ring_step.short_step.Statement.{statement}
+use Rattle.ring_host.proofs.ring_step.short_step.Tie as tie
 
 of-requires : tie.Need-of-requires
 of-requires c κs = tt
@@ -28,7 +28,7 @@ returns c = absurd (omega arith)
 
 returns-2 : tie.Need-returns-2
 unfolding stepVerdict
-returns-2 c = 
+returns-2 c =
     let i = c .before .before .before .before .before .before in
     let a = i .before .before .before .args in
     image-refuses-first (a .image .now) (i .of .ensures) (eventVerdict codes (sizeIn (a .image .now)) (a .event .now))
@@ -44,14 +44,14 @@ enum-told-2 : tie.Need-enum-told-2
 enum-told-2 c = omega arith
 
 returns-3 : tie.Need-returns-3
-returns-3 c = 
+returns-3 c =
     let i = c .before .before .before .before .before .before in
     let a = i .before .before .before .args in
     event-passes (a .image .now) (i .of .ensures) (c .before .before .before .before .checked .given .1) (a .event .now)
     (c .before .before .parse .ensures) (c .enum-told2 .given .1)
 
 returns-4 : tie.Need-returns-4
-returns-4 c = 
+returns-4 c =
     let i = c .before .before .before .before .before .before .before in
     let a = i .before .before .before .args in
     event-refuses (a .image .now) (i .of .ensures) (c .before .before .before .before .before .checked .given .1) (a .event .now)

@@ -3,8 +3,8 @@ use mathlib.Core.Path.{_∙_}
 use borrow.Author.Needs.{needs}
 use native.Mathlib.Omega.{arith}
 use Rattle.ring_host.proofs.Ways.{run-short, run-refused, run-done}
-use Rattle.ring_host.proofs.ring_run.Statement.{statement}
-use Rattle.ring_host.proofs.ring_run.Tie as tie
+use Rattle.ring_host.proofs.ring_run.ring_run.Statement.{statement}
+use Rattle.ring_host.proofs.ring_run.ring_run.Tie as tie
 
 short-run-requires : tie.Need-short-run-requires
 short-run-requires c κs = tt
@@ -16,7 +16,7 @@ same-length : tie.Need-same-length
 same-length c = omega arith
 
 returns : tie.Need-returns
-returns c = 
+returns c =
     let a = c .before .before .before .before .before .before .before .before .args in
     run-short (a .image .now) (a .tape .now) (a .ledger .now) (a .result .now) (omega arith)
     (c .before .short-run .ensures) (c .number-of .ensures)
@@ -58,7 +58,7 @@ same-length-6 : tie.Need-same-length-6
 same-length-6 c = omega arith
 
 returns-3 : tie.Need-returns-3
-returns-3 c = 
+returns-3 c =
     let s = c .before .before .before .before .before .before .before .before .before .before .before .before .before .before in
     let a = s .before .before .before .before .before .before .before .before .args in
     run-refused (a .image .now) (a .tape .now) (a .ledger .now) (a .result .now) (omega arith) (s .run .ensures .1 .0)
@@ -78,7 +78,7 @@ same-length-9 : tie.Need-same-length-9
 same-length-9 c = omega arith
 
 returns-4 : tie.Need-returns-4
-returns-4 c = 
+returns-4 c =
     let s = c .before .before .before .before .before .before .before .before .before .before .before .before in
     let a = s .before .before .before .before .before .before .before .before .args in
     run-done (a .image .now) (a .tape .now) (a .ledger .now) (a .result .now) (omega arith) (s .run .ensures .1 .0)
