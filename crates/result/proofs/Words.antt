@@ -1,5 +1,5 @@
--- The words of a result slice: a word is two halves of four bytes; words written one after the other are one splice; and
--- zeros up to byte 80 are words of 0, so up to ten values are told as ten words. Assumes nothing.
+-- The words of a result slice: a word is two halves of four bytes; words written one after the other are one splice;
+-- and zeros up to byte 80 are words of 0, so up to ten values are told as ten words. Assumes nothing.
 use Prim.Native.Nat.{ℕ, zero, suc, _+_, _-_, _*_, _/_, _%_, _^_, _≤_, _<_}
 use mathlib.Core.Path.{_≡_, refl, sym, ap, _∙_}
 use mathlib.Core.List.{List, [], _∷_, _++_, append-assoc}

@@ -16,8 +16,8 @@ ghost use Rattle.machine.specs.Answers.{runAnswer, runImage, runLedger};
 ghost use Rattle.machine.specs.Host.{returned, resultAfter, lentWith};
 ghost use Rattle.result.specs.Short.{tooShort};
 
-// Why a run is refused whose result slice is too short: by its tests, else 10. A ledger that is too short is 10 as well,
-// so it isn't measured.
+// Why a run is refused whose result slice is too short: by its tests, else 10. A ledger that is too short is 10 as
+// well, so it isn't measured.
 fn short_run(image: &[u8], tape: &[u8]) -> Refusal
     ensures { λ r. ⌜ r ≡ tooShort (orElse (imageVerdict (now (image .entry)))
         (tapeVerdict codes (sizeIn (now (image .entry))) (now (tape .entry)))) ⌝ }

@@ -24,7 +24,8 @@ fn short_stopped(image: &[u8]) -> Refusal
     refusal
 }
 
-// The stopped call: 1 is told for yes, 0 for no. An answer is yes, no or refused, so the innermost else is never reached.
+// The stopped call: 1 is told for yes, 0 for no. An answer is yes, no or refused, so the innermost else is never
+// reached.
 #[no_mangle]
 pub extern "C" fn ring_stopped(image: &[u8], result: &mut [u8]) -> u64
     ensures number { λ r. ⌜ r ≡ returned (stoppedAnswer (now (image .entry))) (now (result .entry)) ⌝ }

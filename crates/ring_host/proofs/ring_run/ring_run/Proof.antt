@@ -59,11 +59,14 @@ same-length-6 c = omega arith
 
 returns-3 : tie.Need-returns-3
 returns-3 c =
-    let s = c .before .before .before .before .before .before .before .before .before .before .before .before .before .before in
+    let handed = c .before .before in
+    let other = handed .before .before .before in
+    let one = other .before .before .before in
+    let s = one .before .before .before .before .before .before in
     let a = s .before .before .before .before .before .before .before .before .args in
     run-refused (a .image .now) (a .tape .now) (a .ledger .now) (a .result .now) (omega arith) (s .run .ensures .1 .0)
-    (s .run .ensures .1 .1) (s .run .ensures .0) _ (c .before .before .before .before .before .before .before .before .answer2 .given .1 ∙ c .before .before .before .before .before .answer3 .given .1)
-    (c .before .before .refused .ensures .0) (c .before .before .refused .ensures .1)
+    (s .run .ensures .1 .1) (s .run .ensures .0) _ (one .answer2 .given .1 ∙ other .answer3 .given .1)
+    (handed .refused .ensures .0) (handed .refused .ensures .1)
 
 tell-requires : tie.Need-tell-requires
 tell-requires c κs = search needs
@@ -79,10 +82,11 @@ same-length-9 c = omega arith
 
 returns-4 : tie.Need-returns-4
 returns-4 c =
-    let s = c .before .before .before .before .before .before .before .before .before .before .before .before in
+    let is = c .before .before .before .before .before .before in
+    let s = is .before .before .before .before .before .before in
     let a = s .before .before .before .before .before .before .before .before .args in
     run-done (a .image .now) (a .tape .now) (a .ledger .now) (a .result .now) (omega arith) (s .run .ensures .1 .0)
-    (s .run .ensures .1 .1) (s .run .ensures .0) _ (c .before .before .before .before .before .before .answer .given .1) (c .before .before .tell .ensures)
+    (s .run .ensures .1 .1) (s .run .ensures .0) _ (is .answer .given .1) (c .before .before .tell .ensures)
 
 pub ring-run-spec : {M : Type 1} → statement M
 ring-run-spec =

@@ -27,10 +27,12 @@ returns c = absurd (omega arith)
 
 returns-2 : tie.Need-returns-2
 returns-2 c =
-    let i = c .before .before .before .before .before .before in
+    let other = c .before in
+    let one = other .before .before .before in
+    let i = one .before .before in
     let a = i .before .before .before .args in
     image-refuses-first (a .image .now) (i .of .ensures) (tapeVerdict codes (sizeIn (a .image .now)) (a .tape .now))
-    (c .before .before .before .before .checked2 .given .1 ∙ c .before .checked3 .given .1)
+    (one .checked2 .given .1 ∙ other .checked3 .given .1)
 
 of-requires-2 : tie.Need-of-requires-2
 of-requires-2 c κs = tt
@@ -43,16 +45,18 @@ enum-told-2 c = omega arith
 
 returns-3 : tie.Need-returns-3
 returns-3 c =
-    let i = c .before .before .before .before .before .before in
+    let whole = c .before .before .before .before in
+    let i = whole .before .before in
     let a = i .before .before .before .args in
-    tape-passes (a .image .now) (i .of .ensures) (c .before .before .before .before .checked .given .1) (a .tape .now)
+    tape-passes (a .image .now) (i .of .ensures) (whole .checked .given .1) (a .tape .now)
     (c .before .before .of2 .ensures) (c .enum-told2 .given .1)
 
 returns-4 : tie.Need-returns-4
 returns-4 c =
-    let i = c .before .before .before .before .before .before .before in
+    let whole = c .before .before .before .before .before in
+    let i = whole .before .before in
     let a = i .before .before .before .args in
-    tape-refuses (a .image .now) (i .of .ensures) (c .before .before .before .before .before .checked .given .1) (a .tape .now)
+    tape-refuses (a .image .now) (i .of .ensures) (whole .checked .given .1) (a .tape .now)
     (c .before .before .before .of2 .ensures) (c .before .counted .given .1)
 
 pub short-run-spec : {M : Type 1} → statement M

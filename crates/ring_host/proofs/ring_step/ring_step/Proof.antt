@@ -53,11 +53,14 @@ same-length-4 c = omega arith
 
 returns-3 : tie.Need-returns-3
 returns-3 c =
-    let s = c .before .before .before .before .before .before .before .before .before .before .before .before in
+    let handed = c .before .before in
+    let other = handed .before .before .before in
+    let one = other .before .before .before in
+    let s = one .before .before .before .before in
     let a = s .before .before .before .before .before .before .args in
-    step-refused (a .image .now) (a .event .now) (a .result .now) (omega arith) (s .step .ensures .1) (s .step .ensures .0)
-    _ (c .before .before .before .before .before .before .before .before .answer2 .given .1 ∙ c .before .before .before .before .before .answer3 .given .1)
-    (c .before .before .refused .ensures .0) (c .before .before .refused .ensures .1)
+    step-refused (a .image .now) (a .event .now) (a .result .now) (omega arith) (s .step .ensures .1)
+    (s .step .ensures .0) _ (one .answer2 .given .1 ∙ other .answer3 .given .1) (handed .refused .ensures .0)
+    (handed .refused .ensures .1)
 
 outcome-number-requires : tie.Need-outcome-number-requires
 outcome-number-requires c κs = tt
@@ -82,10 +85,13 @@ same-length-6 c = omega arith
 
 returns-4 : tie.Need-returns-4
 returns-4 c =
-    let s = c .before .before .before .before .before .before .before .before .before .before .before .before in
+    let message = c .before .before .before .before .before in
+    let number = message .before in
+    let is = number .before .before in
+    let s = is .before .before .before .before in
     let a = s .before .before .before .before .before .before .args in
     step-done (a .image .now) (a .event .now) (a .result .now) (omega arith) (s .step .ensures .1) (s .step .ensures .0)
-    _ (c .before .before .before .before .before .before .before .before .answer .given .1) (c .before .before .before .before .before .before .outcome-number .ensures) (c .before .before .before .before .before .outcome-message .ensures)
+    _ (is .answer .given .1) (number .outcome-number .ensures) (message .outcome-message .ensures)
     (c .before .before .tell .ensures)
 
 pub ring-step-spec : {M : Type 1} → statement M

@@ -29,10 +29,12 @@ returns c = absurd (omega arith)
 returns-2 : tie.Need-returns-2
 unfolding stepVerdict
 returns-2 c =
-    let i = c .before .before .before .before .before .before in
+    let other = c .before in
+    let one = other .before .before .before in
+    let i = one .before .before in
     let a = i .before .before .before .args in
     image-refuses-first (a .image .now) (i .of .ensures) (eventVerdict codes (sizeIn (a .image .now)) (a .event .now))
-    (c .before .before .before .before .checked2 .given .1 ∙ c .before .checked3 .given .1)
+    (one .checked2 .given .1 ∙ other .checked3 .given .1)
 
 parse-requires : tie.Need-parse-requires
 parse-requires c κs = tt
@@ -45,16 +47,18 @@ enum-told-2 c = omega arith
 
 returns-3 : tie.Need-returns-3
 returns-3 c =
-    let i = c .before .before .before .before .before .before in
+    let whole = c .before .before .before .before in
+    let i = whole .before .before in
     let a = i .before .before .before .args in
-    event-passes (a .image .now) (i .of .ensures) (c .before .before .before .before .checked .given .1) (a .event .now)
+    event-passes (a .image .now) (i .of .ensures) (whole .checked .given .1) (a .event .now)
     (c .before .before .parse .ensures) (c .enum-told2 .given .1)
 
 returns-4 : tie.Need-returns-4
 returns-4 c =
-    let i = c .before .before .before .before .before .before .before in
+    let whole = c .before .before .before .before .before in
+    let i = whole .before .before in
     let a = i .before .before .before .args in
-    event-refuses (a .image .now) (i .of .ensures) (c .before .before .before .before .before .checked .given .1) (a .event .now)
+    event-refuses (a .image .now) (i .of .ensures) (whole .checked .given .1) (a .event .now)
     (c .before .before .before .parse .ensures) (c .before .parsed .given .1)
 
 pub short-step-spec : {M : Type 1} → statement M

@@ -14,7 +14,8 @@ number-of-requires c κs = tt
 returns : tie.Need-returns
 returns c =
     let a = c .before .before .before .before .before .args in
-    stopped-short (a .image .now) (a .result .now) (omega arith) (c .before .short-stopped .ensures) (c .number-of .ensures)
+    stopped-short (a .image .now) (a .result .now) (omega arith) (c .before .short-stopped .ensures)
+    (c .number-of .ensures)
 
 stopped-requires : tie.Need-stopped-requires
 stopped-requires c κs = tt
@@ -42,10 +43,12 @@ same-length c = omega arith
 
 returns-3 : tie.Need-returns-3
 returns-3 c =
-    let s = c .before .before .before .before .before .before .before .before .before in
+    let handed = c .before .before in
+    let is = handed .before .before .before in
+    let s = is .before .before .before .before in
     let a = s .before .before .before .before .args in
-    stopped-refused (a .image .now) (a .result .now) (omega arith) (s .stopped .ensures) _ (c .before .before .before .before .before .answer .given .1)
-    (c .before .before .refused .ensures .0) (c .before .before .refused .ensures .1)
+    stopped-refused (a .image .now) (a .result .now) (omega arith) (s .stopped .ensures) _ (is .answer .given .1)
+    (handed .refused .ensures .0) (handed .refused .ensures .1)
 
 tell-one-requires : tie.Need-tell-one-requires
 tell-one-requires c κs = omega arith
@@ -55,9 +58,10 @@ same-length-2 c = omega arith
 
 returns-4 : tie.Need-returns-4
 returns-4 c =
-    let s = c .before .before .before .before .before .before .before in
+    let is = c .before .before .before .before in
+    let s = is .before .before .before in
     let a = s .before .before .before .before .args in
-    stopped-no (a .image .now) (a .result .now) (omega arith) (s .stopped .ensures) (c .before .before .before .before .enum-told2 .given .1)
+    stopped-no (a .image .now) (a .result .now) (omega arith) (s .stopped .ensures) (is .enum-told2 .given .1)
     (c .before .before .tell-one .ensures)
 
 tell-one-requires-2 : tie.Need-tell-one-requires-2
@@ -68,9 +72,10 @@ same-length-3 c = omega arith
 
 returns-5 : tie.Need-returns-5
 returns-5 c =
-    let s = c .before .before .before .before .before .before in
+    let is = c .before .before .before .before in
+    let s = is .before .before in
     let a = s .before .before .before .before .args in
-    stopped-yes (a .image .now) (a .result .now) (omega arith) (s .stopped .ensures) (c .before .before .before .before .enum-told .given .1)
+    stopped-yes (a .image .now) (a .result .now) (omega arith) (s .stopped .ensures) (is .enum-told .given .1)
     (c .before .before .tell-one2 .ensures)
 
 pub ring-stopped-spec : {M : Type 1} → statement M
