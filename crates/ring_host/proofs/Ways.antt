@@ -1,6 +1,6 @@
--- Each way through the three calls of the suite's host is that way through the rule: with a short result slice the tests
--- alone, else the call's own answer, told. The answers of lower functions are variables here, each with the rule's value
--- that it is known to be. Assumes nothing.
+-- Each way through the three calls of the suite's host is that way through the rule: with a short result slice the
+-- tests alone, else the call's own answer, told. The answers of lower functions are variables here, each with the
+-- rule's value that it is known to be. Assumes nothing.
 use Prim.Native.Nat.{ℕ, _≤_, _<_}
 use mathlib.Core.Path.{_≡_, sym, ap, _∙_}
 use mathlib.Core.List.{List, [], _∷_, _++_}
