@@ -26,7 +26,7 @@ use Rattle.machine.proofs.Bytes.{number-lt}
 use Rattle.machine.proofs.Lists.{and-first, and-second}
 use Rattle.machine.proofs.Stored.{length-state}
 use Rattle.machine.proofs.Rewrite.{read-in-range}
-use Rattle.machine.proofs.Refusals.{event-below, first-fine}
+use Rattle.machine.proofs.Refusals.{number-range, event-below, first-fine}
 use Rattle.machine.proofs.Runs.{fitting, Continues, event-continues, events-continue}
 use Rattle.machine.proofs.Balance.Clauses.{Invariant}
 use Rattle.machine.proofs.Balance.Kept.{countsOf, event-kept, events-kept}
@@ -61,7 +61,7 @@ on-ring n (v ∷ vs) fit =
 
 module _ {n : ℕ} {image : List ℕ} {t : Totals} (before : Reached n image t) where
   -- a call that leaves the image and shows nothing
-  unchanged : Reached n image (plus t nothing)
+  pub unchanged : Reached n image (plus t nothing)
   unchanged = subst (Reached n image) (sym (plus-nothing t)) before
 
   -- a call that writes a state over the image's own
@@ -104,7 +104,7 @@ module _ {n : ℕ} {image : List ℕ} {t : Totals} (before : Reached n image t) 
         (by-verdict (λ w. Reached n (lent w image (imageWith image (apply st v)))
         (plus t (stepShows event (answer w values))))
         (eventVerdict codes (sizeIn image) event) step-done
-        (λ r. subst (λ (u : Totals). Reached n image (plus t u)) (sym (step-refused event r values)) unchanged))
+        (λ r. subst (λ (u : Totals). Reached n image (plus t u)) (sym (step-refused event (answer (Refused r) values) (number-range r .0))) unchanged))
 
   -- ---- a run
 
@@ -143,7 +143,7 @@ module _ {n : ℕ} {image : List ℕ} {t : Totals} (before : Reached n image t) 
         (by-verdict (λ w. Reached n (lent w image (imageWith image (after st vs)))
         (plus t (runShows (answer w values) (lent w ledger (splice ledger 0 records)))))
         (orElse test room) (λ accepted. run-done (first-fine test room accepted))
-        (λ r. subst (λ (u : Totals). Reached n image (plus t u)) (sym (run-refused r values ledger)) unchanged))
+        (λ r. subst (λ (u : Totals). Reached n image (plus t u)) (sym (run-refused ledger (answer (Refused r) values) (number-range r .0))) unchanged))
 
   -- ---- any call
 

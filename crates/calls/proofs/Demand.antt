@@ -50,7 +50,7 @@ module _ (n home : ℕ) (two : least ≤ n) (few : n ≤ most) (below : home < n
   unfolding freshImage
   fresh-written = rw accepted
 
-  fresh-reached : Reached n (freshImage n home buffer) nothing
+  pub fresh-reached : Reached n (freshImage n home buffer) nothing
   unfolding freshState
   fresh-reached =
       let st = freshState n home in
@@ -91,7 +91,7 @@ unfolding stoppedAnswer
 says-stopped image fine says =
     is-yes (stopped (stateIn image)) (ap (λ (a : Answer). value a 0) (rw fine at says))
 
-promised : (n : ℕ) (image : List ℕ) (t : Totals) → Reached n image t → Promised n image t
+pub promised : (n : ℕ) (image : List ℕ) (t : Totals) → Reached n image t → Promised n image t
 promised n image t here =
     let all = balanced (stateIn image) t (here .invariant) in
     record {

@@ -6,3 +6,4 @@ pub mod Shown
 pub mod Calls
 pub mod Demand
 pub mod Witness
+pub mod Suite

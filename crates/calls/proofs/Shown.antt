@@ -1,7 +1,7 @@
 -- What a call shows is what the rules count of its events: field by field, the numbers are the same by definition or
 -- by the laws of a run's counts, and the messages by the ledger's codes. A refused call shows nothing. And what calls
 -- show one after the other is added in any grouping. Assumes nothing.
-use Prim.Native.Nat.{ℕ}
+use Prim.Native.Nat.{ℕ, _≤_}
 use mathlib.Core.Path.{_≡_, refl, sym, ap, ap₂}
 use mathlib.Core.Bool.{Bool, true, cond}
 use mathlib.Core.List.{List, _++_, append-assoc, append-nil}
@@ -9,17 +9,14 @@ use native.Mathlib.Omega.{arith}
 use lib.ListN.{length, getD}
 use borrow.Author.Tests.{ne-eqb}
 use Rattle.machine.specs.declared.Outcome.{Outcome}
-use Rattle.machine.specs.declared.Refusal.{Refusal}
-use Rattle.machine.specs.declared.Verdict.the-variants.{Fine, Refused}
+use Rattle.machine.specs.declared.Verdict.the-variants.{Fine}
 use Rattle.machine.specs.Bytes.{splice}
 use Rattle.machine.specs.Lists.{all}
 use Rattle.machine.specs.Image.{State}
 use Rattle.machine.specs.Events.{Event}
 use Rattle.machine.specs.Run.{ledgerFrom, noCounts, counted, countsFrom, countValues}
 use Rattle.machine.specs.Balance.{Totals, totalsOf, filledFrom, takenFrom}
-use Rattle.machine.specs.Refusals.{numberOf}
-use Rattle.machine.specs.Answers.{answer, outcomeValues}
-use Rattle.machine.proofs.Refusals.{number-range}
+use Rattle.machine.specs.Answers.{Answer, answer, outcomeValues}
 use Rattle.machine.proofs.Readback.{InRange}
 use Rattle.machine.proofs.Runs.{fitting}
 use Rattle.machine.proofs.Tallies.{puts-add, gets-add, sent-add, got-add}
@@ -58,19 +55,16 @@ plus-assoc t u w =
     same-totals (plus (plus t u) w) (plus t (plus u w)) (omega arith) (omega arith) (omega arith) (omega arith)
     (append-assoc (t .filled) (u .filled) (w .filled)) (append-assoc (t .taken) (u .taken) (w .taken))
 
--- ---- a refused call
+-- ---- a refused call: its number isn't 0
 
-refused-adds-nothing : (r : Refusal) (values : List ℕ) (t : Totals)
-    → unlessRefused (answer (Refused r) values) t ≡ nothing
-refused-adds-nothing r values t =
-    ap (λ (b : Bool). cond b t nothing) (ne-eqb (numberOf r) 0 (λ same. omega (arith, number-range r .0)))
+adds-nothing : (a : Answer) (t : Totals) → 1 ≤ a .number → unlessRefused a t ≡ nothing
+adds-nothing a t refused = ap (λ (b : Bool). cond b t nothing) (ne-eqb (a .number) 0 (λ same. omega arith))
 
-pub step-refused : (event : List ℕ) (r : Refusal) (values : List ℕ)
-    → stepShows event (answer (Refused r) values) ≡ nothing
-step-refused event r values = refused-adds-nothing r values _
+pub step-refused : (event : List ℕ) (a : Answer) → 1 ≤ a .number → stepShows event a ≡ nothing
+step-refused event a refused = adds-nothing a _ refused
 
-pub run-refused : (r : Refusal) (values ledger : List ℕ) → runShows (answer (Refused r) values) ledger ≡ nothing
-run-refused r values ledger = refused-adds-nothing r values _
+pub run-refused : (ledger : List ℕ) (a : Answer) → 1 ≤ a .number → runShows a ledger ≡ nothing
+run-refused ledger a refused = adds-nothing a _ refused
 
 -- ---- a step that is done
 

@@ -11,7 +11,7 @@ use lib.ListN.{List·getD-eq-default, drop-of-length-le}
 use lib.Seq.{sets-eq, getD-append-add, getD-take, getD-drop, length-take-le, drop-cons, take-append-add}
 use lib.Seq.{drop-append-add, drop-append-seam, take-append-seam, drop-drop, take-nil}
 use lib.Dec.{eqb, ltb}
-use lib.Pow.{shr-shr}
+use lib.Pow.{shr-shr, shr-lt}
 use borrow.Author.Tests.{ltb-true, ltb-false, eqb-true, eqb-false, eq-eqb, ne-eqb}
 use Rattle.machine.specs.Bytes.{Bytes, part, littleEndian, number, bytes, allZero, zeros, splice}
 
@@ -102,13 +102,19 @@ bytes-4 n h =
     let top : n / 16777216 % 256 ≡ n / 16777216 = omega arith in
     rw (two, three, top)
 
-pub littleEndian-bytes-2 : (n : ℕ) → n < 65536 → littleEndian (bytes 2 n) ≡ n
+-- at every width
+pub littleEndian-bytes : (width n : ℕ) → n < 2 ^ (8 * width) → littleEndian (bytes width n) ≡ n
 unfolding littleEndian bytes
-littleEndian-bytes-2 n h = omega arith
+littleEndian-bytes zero n h = omega arith
+littleEndian-bytes (suc width) n h =
+    let wide : 8 * suc width ≡ 8 * width + 8 = omega arith in
+    rw (littleEndian-bytes width (n / 256) (shr-lt (8 * width) 8 (rw wide at h))) (omega arith)
+
+pub littleEndian-bytes-2 : (n : ℕ) → n < 65536 → littleEndian (bytes 2 n) ≡ n
+littleEndian-bytes-2 = littleEndian-bytes 2
 
 pub littleEndian-bytes-4 : (n : ℕ) → n < 2 ^ 32 → littleEndian (bytes 4 n) ≡ n
-unfolding littleEndian
-littleEndian-bytes-4 n h = rw (bytes-4 n h) (omega (arith, shr-shr n 8 8, shr-shr n 16 8))
+littleEndian-bytes-4 = littleEndian-bytes 4
 
 -- ---- bytes are all zero exactly when their number is
 

@@ -1,6 +1,6 @@
 -- What stays true of the image while the events of an accepted tape are performed on it, and which event comes next.
 -- Assumes nothing.
-use Prim.Native.Nat.{ℕ, _+_, _-_, _/_, _%_, _≤_, _<_}
+use Prim.Native.Nat.{ℕ, _+_, _/_, _%_, _≤_, _<_}
 use mathlib.Core.Path.{_≡_, refl, _∙_}
 use mathlib.Core.Bool.{true}
 use mathlib.Core.List.{List, [], _∷_}
@@ -18,7 +18,6 @@ use Rattle.machine.proofs.Kept.{imageAfter}
 use Rattle.machine.proofs.Runs.{fitting, Continues, event-continues}
 use Rattle.blocks.specs.Counted.{eventsOn}
 use Rattle.blocks.proofs.Blocks.{tape-fine}
-use Rattle.blocks.proofs.Lengths.{length-list}
 use Rattle.tape.proofs.Slots.{event-placed}
 use Rattle.tape.proofs.Events as events
 use Rattle.play.specs.Playable.{Playable}
@@ -46,17 +45,7 @@ module _ {s₀ tape : List ℕ} {total : ℕ} (ready : Playable s₀ tape total)
 
   -- a tape has at most 65,536 blocks of 63 events
   pub few-events : total ≤ 4128768
-  few-events =
-      let fine = tape-fine codes (sizeIn s₀) tape (ready .tape-fine) in
-      let last = length tape / 512 - 1 in
-      omega (
-        arith,
-        ready .counted,
-        fine .some,
-        fine .most,
-        fine .blocks last (omega (arith, fine .some)) .most,
-        length-list tape fine,
-      )
+  few-events = omega (arith, ready .counted, events.events-few codes (sizeIn s₀) tape (ready .tape-fine))
 
   -- after all of them none is left
   pub left-none : (k : ℕ) → k ≡ total → left tape k ≡ []

@@ -82,7 +82,7 @@ module _ (s ws : List ℕ) (k : ℕ) where
 -- ---- what a call tells
 
 -- up to ten values, and words of 0 up to the tenth
-values-in-ten : (values : List ℕ) → length values ≤ 10
+pub values-in-ten : (values : List ℕ) → length values ≤ 10
     → wordsOf (values ++ replicate (10 - length values) 0) ≡ resultBytes values
 unfolding resultBytes
 values-in-ten values few =

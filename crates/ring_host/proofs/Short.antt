@@ -1,7 +1,7 @@
 -- Each way through the tests of a call whose result slice is too short: the first refusal is the rule's, and past all
 -- tests it is 10. A run's ledger needs no test, since it could only be refused with 10 as well. Assumes nothing.
 use Prim.Native.Nat.{ℕ}
-use mathlib.Core.Path.{_≡_, refl, sym, ap, _∙_}
+use mathlib.Core.Path.{_≡_, refl, _∙_}
 use mathlib.Core.Bool.{Bool, true, false}
 use mathlib.Core.List.{List}
 use lib.ListN.{length}

@@ -9,8 +9,8 @@ use lib.Dec.{lit≤}
 use Rattle.machine.specs.declared.Counts.{Counts}
 use Rattle.machine.specs.declared.Outcome.{Outcome}
 use Rattle.machine.specs.declared.Refusal.{Refusal}
-use Rattle.machine.specs.Bytes.{bit, splice}
-use Rattle.machine.specs.Image.{sizeIn, stateIn}
+use Rattle.machine.specs.Bytes.{splice}
+use Rattle.machine.specs.Image.{sizeIn}
 use Rattle.machine.specs.Run.{outcomeNumber, outcomeMessage, countValues}
 use Rattle.machine.specs.Refusals.{numberOf, placeOf, orElse, codes, imageVerdict, tapeVerdict}
 use Rattle.machine.specs.Answers.{outcomeValues, stepVerdict, stepAnswer, stepImage}

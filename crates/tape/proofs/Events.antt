@@ -1,6 +1,6 @@
 -- The events of an accepted tape, as a run takes them: event k is the one in slot k % 63 of block k / 63, it is at a
 -- process of the ring, and its message has 32 bits. Assumes nothing.
-use Prim.Native.Nat.{ℕ, _+_, _*_, _/_, _%_, _^_, _<_}
+use Prim.Native.Nat.{ℕ, _+_, _-_, _*_, _/_, _%_, _^_, _≤_, _<_}
 use mathlib.Core.Path.{_≡_, ap, _∙_}
 use mathlib.Core.Bool.{true}
 use mathlib.Core.List.{List, _∷_}
@@ -23,6 +23,7 @@ use Rattle.machine.proofs.Lists.{length-tabulate, getD-tabulate, all-each}
 use Rattle.machine.proofs.Runs.{fitting}
 use Rattle.blocks.specs.Counted.{eventsOn}
 use Rattle.blocks.proofs.Blocks.{TapeFine, tape-fine}
+use Rattle.blocks.proofs.Lengths.{length-list}
 use Rattle.tape.proofs.Slots.{event-placed, event-read}
 
 -- an event past the end
@@ -38,6 +39,12 @@ module _ (codes n : ℕ) (s : List ℕ) (accepted : tapeVerdict codes n s ≡ Fi
   -- what the tape has
   tape : TapeFine codes n s
   tape = tape-fine codes n s accepted
+
+  -- at most 65,536 blocks of 63
+  pub events-few : eventsOn s ≤ 4128768
+  events-few =
+      let last = length s / 512 - 1 in
+      omega (arith, tape .blocks last (omega (arith, tape .some)) .most, tape .some, tape .most, length-list s tape)
 
   -- event k, where it stands on the tape
   pub event-at : (k : ℕ) → k < eventsOn s → (d : Event) → getD (runEvents s) k d ≡ eventIn s (slotAt (k / 63) (k % 63))

@@ -1,0 +1,225 @@
+-- The third demand over the calls of the suite's host. With a result slice of at least 80 bytes a call leaves the image
+-- as the call itself does, and what is read back shows the same: the values fit their words, since messages have 32 bits
+-- and a run has at most 4,128,768 events. With a shorter slice a call leaves the image, and the number that it returns
+-- isn't 0, so that it shows nothing. So every call keeps what Calls.Reached says. Assumes nothing.
+use Prim.Native.Nat.{ℕ, suc, _+_, _-_, _≤_, _<_}
+use mathlib.Core.Path.{_≡_, refl, sym, ap, ap₂, subst, _∙_}
+use mathlib.Core.List.{List, [], _∷_, _++_}
+use mathlib.Core.Logic.{_⊎_, inl, inr}
+use native.Mathlib.Omega.{arith}
+use lib.ListN.{length, replicate}
+use lib.Dec.{lit≤}
+use Rattle.machine.specs.declared.Counts.{Counts}
+use Rattle.machine.specs.declared.Outcome.{Outcome}
+use Rattle.machine.specs.declared.Outcome.the-variants.{Idle, Moved, Fill, Take, Sent, Got}
+use Rattle.machine.specs.declared.Verdict.{Verdict}
+use Rattle.machine.specs.declared.Verdict.the-variants.{Fine, Refused}
+use Rattle.machine.specs.Bytes.{Bytes, bit, number}
+use Rattle.machine.specs.Lists.{tabulate}
+use Rattle.machine.specs.Image.{State, sizeIn, stateIn}
+use Rattle.machine.specs.Events.{Event, outcome, apply}
+use Rattle.machine.specs.Stopped.{stopped}
+use Rattle.machine.specs.Run.{outcomeNumber, noCounts, countsFrom, countValues}
+use Rattle.machine.specs.Balance.{Totals}
+use Rattle.machine.specs.Tape.{eventIn}
+use Rattle.machine.specs.Refusals.{numberOf, codes, imageVerdict, tapeVerdict}
+use Rattle.machine.specs.Answers.{Answer, answer, freshImage, outcomeValues, stepVerdict, stepAnswer, stepImage}
+use Rattle.machine.specs.Answers.{runEvents, runVerdict, runAnswer, runImage, runLedger, stoppedAnswer}
+use Rattle.machine.specs.Host.{lentWith}
+use Rattle.machine.proofs.Bytes.{lt-or-ge, number-lt}
+use Rattle.machine.proofs.Bits.{bit-le}
+use Rattle.machine.proofs.Stored.{length-state}
+use Rattle.machine.proofs.Rewrite.{read-in-range}
+use Rattle.machine.proofs.Refusals.{number-range, event-below, first-fine, second-fine}
+use Rattle.ledger.specs.Bounds.{NoneAbove}
+use Rattle.ledger.proofs.Bounds.{none-above-le, none-above-start, counted-above}
+use Rattle.tape.proofs.Events.{length-events, events-few}
+use Rattle.result.specs.Short.{tooShort}
+use Rattle.result.proofs.Read.{FitWords, values-read}
+use Rattle.result.proofs.Told.{lent-as-left, done-told, refused-told, lent-untouched, short-told}
+use Rattle.calls.specs.Calls.{nothing, value, stepShows, runShows, plus}
+use Rattle.calls.specs.Calls.Call.{Step as StepCall, Run as RunCall}
+use Rattle.calls.specs.Demand.{SaysStopped}
+use Rattle.calls.specs.Suite.{HostCall, hostImage, hostImageAll, answerRead, hostAnswer, hostShown, hostShownAll}
+use Rattle.calls.specs.Suite.{TellsStopped, givenByHost, HostBytes, SuiteDemand}
+use Rattle.calls.specs.Suite.HostCall.{Step, Run, Stopped}
+use Rattle.calls.proofs.Messages.{outcome-small}
+use Rattle.calls.proofs.Shown.{plus-nothing, nothing-plus, plus-assoc, step-refused, run-refused}
+use Rattle.calls.proofs.Calls.{Reached, unchanged, call-kept}
+use Rattle.calls.proofs.Demand.{fresh-reached, promised}
+
+-- ---- the answer as the host has it
+
+module _ (values : List ℕ) (few : length values ≤ 10) (result : List ℕ) where
+  -- ten values
+  abbrev padded : List ℕ
+  padded = values ++ replicate (10 - length values) 0
+
+  -- done, it has the values, and 0 after them
+  done-read : 80 ≤ length result → FitWords values → hostAnswer (answer Fine values) result ≡ answer Fine padded
+  done-read room fit =
+      let tells = done-told result room values refl refl in
+      sym (ap₂ answerRead (tells .0) (tells .1))
+      ∙ ap (λ (l : List ℕ). answer Fine l) (values-read result values few fit)
+
+  -- what is shown of an answer: nothing if it is refused, and nothing of the words after its values
+  module _ (shows : Answer → Totals) (refused : (a : Answer) → 1 ≤ a .number → shows a ≡ nothing)
+      (unread : shows (answer Fine padded) ≡ shows (answer Fine values)) where
+    -- with at least 80 bytes, what the call itself shows
+    long-shows : 80 ≤ length result → (v : Verdict) → (v ≡ Fine → FitWords values)
+        → shows (hostAnswer (answer v values) result) ≡ shows (answer v values)
+    long-shows room Fine fit = ap shows (done-read room (fit refl)) ∙ unread
+    long-shows room (Refused r) fit =
+        let high = number-range r .0 in
+        let tells = refused-told result room {n = numberOf r} r refl refl refl in
+        refused (hostAnswer (answer (Refused r) values) result) (omega (arith, tells .0))
+        ∙ sym (refused (answer (Refused r) values) high)
+
+    -- with fewer nothing
+    short-shows : length result < 80 → (v : Verdict) → shows (hostAnswer (answer v values) result) ≡ nothing
+    short-shows short v =
+        let tells = short-told result short v values refl in
+        refused (hostAnswer (answer v values) result) (omega (arith, tells .0, number-range (tooShort v) .0))
+
+-- ---- values fit their words
+
+outcome-few : (o : Outcome) → outcomeNumber o ≤ 5
+outcome-few Idle = lit≤ tt
+outcome-few Moved = lit≤ tt
+outcome-few (Fill m) = lit≤ tt
+outcome-few (Take m) = lit≤ tt
+outcome-few Sent = lit≤ tt
+outcome-few Got = lit≤ tt
+
+-- no count is above the number of events
+counts-few : (vs : List Event) (st : State) (k : ℕ) {c : Counts} → NoneAbove k c
+    → NoneAbove (k + length vs) (countsFrom c st vs)
+unfolding countsFrom
+counts-few [] st k above = none-above-le (omega arith) above
+counts-few (v ∷ vs) st k above =
+    none-above-le (omega arith) (counts-few vs (apply st v) (k + 1) (counted-above (v .code) (outcome st v) above))
+
+module _ (image : List ℕ) (small : Bytes image) where
+  step-fits : (event : List ℕ) → Bytes event → stepVerdict image event ≡ Fine
+      → FitWords (outcomeValues (outcome (stateIn image) (eventIn event 0)))
+  unfolding stepVerdict eventIn
+  step-fits event bytes fine =
+      let st = stateIn image in
+      let v = eventIn event 0 in
+      let below = event-below (sizeIn image) event (second-fine (imageVerdict image) _ fine) in
+      let message = outcome-small st v (omega (arith, length-state image)) (number-lt event 4 bytes)
+      (read-in-range image small) in
+      (omega (arith, outcome-few (outcome st v)), (omega arith, tt))
+
+  run-fits : (tape ledger : List ℕ) → runVerdict image tape ledger ≡ Fine
+      → FitWords (countValues (countsFrom noCounts (stateIn image) (runEvents tape)))
+  unfolding runVerdict
+  run-fits tape ledger fine =
+      let tests = tapeVerdict codes (sizeIn image) tape in
+      let accepted = first-fine tests _ (second-fine (imageVerdict image) _ fine) in
+      let none = counts-few (runEvents tape) (stateIn image) 0 none-above-start in
+      let above = none-above-le {m = 4128768}
+      (omega (arith, length-events tape, events-few codes (sizeIn image) tape accepted)) none in (
+        omega arith,
+        (
+          omega arith,
+          (
+            omega arith,
+            (
+              omega arith,
+              (omega arith, (omega arith, (omega arith, (omega arith, tt)))),
+            ),
+          ),
+        ),
+      )
+
+-- ---- every call keeps what is known
+
+module _ {n : ℕ} {image : List ℕ} {t : Totals} (before : Reached n image t) where
+  -- a call that shows so much by its own answer, and leaves an image
+  kept : (result values : List ℕ) (few : length values ≤ 10) (shows : Answer → Totals)
+      → ((a : Answer) → 1 ≤ a .number → shows a ≡ nothing)
+      → shows (answer Fine (padded values few result)) ≡ shows (answer Fine values)
+      → (v : Verdict) → (v ≡ Fine → FitWords values)
+      → (after : List ℕ) → (80 ≤ length result → Reached n after (plus t (shows (answer v values))))
+      → Reached n (lentWith result image after) (plus t (shows (hostAnswer (answer v values) result)))
+  kept result values few shows refused unread v fits after done = go (lt-or-ge (length result) 80)
+    where
+      go : (length result < 80) ⊎ (80 ≤ length result)
+          → Reached n (lentWith result image after) (plus t (shows (hostAnswer (answer v values) result)))
+      go (inl short) =
+          rw (
+            ← lent-untouched result short image after,
+            short-shows values few result shows refused unread short v,
+          )
+          (unchanged before)
+      go (inr room) =
+          rw (
+            ← lent-as-left result room image {done = after} refl,
+            long-shows values few result shows refused unread room v fits,
+          )
+          (done room)
+
+  host-call-kept : (c : HostCall) → Bytes (givenByHost c) → Reached n (hostImage image c) (plus t (hostShown image c))
+  unfolding stepAnswer runAnswer
+  host-call-kept (Step event result) bytes =
+      kept result _ (lit≤ tt) (stepShows event) (step-refused event) refl (stepVerdict image event)
+      (step-fits image (before .small) event bytes) (stepImage image event)
+      (λ room. call-kept before (StepCall event) bytes)
+  host-call-kept (Run tape ledger result) bytes =
+      let left = lentWith result ledger (runLedger image tape ledger) in
+      kept result _ (lit≤ tt) (λ a. runShows a left) (run-refused left) refl (runVerdict image tape ledger)
+      (run-fits image (before .small) tape ledger) (runImage image tape ledger)
+      (λ room.
+      rw (← lent-as-left result room ledger {done = runLedger image tape ledger} refl)
+      (call-kept before (RunCall tape ledger) bytes))
+  host-call-kept (Stopped result) bytes = unchanged before
+
+host-calls-kept : (n : ℕ) (calls : List HostCall) (image : List ℕ) (t : Totals) → HostBytes calls → Reached n image t
+    → Reached n (hostImageAll image calls) (plus t (hostShownAll image calls))
+unfolding hostImageAll hostShownAll
+host-calls-kept n [] image t bytes before = subst (Reached n image) (sym (plus-nothing t)) before
+host-calls-kept n (c ∷ calls) image t bytes before =
+    let next = hostImage image c in
+    subst (Reached n (hostImageAll next calls)) (plus-assoc t (hostShown image c) (hostShownAll next calls))
+    (host-calls-kept n calls next (plus t (hostShown image c)) (λ k h. bytes (suc k) (omega arith))
+    (host-call-kept before c (bytes 0 (omega arith))))
+
+-- ---- the demand
+
+-- a host that reads 1 was answered yes
+module _ (image result : List ℕ) (fine : imageVerdict image ≡ Fine) where
+  -- 1 for yes, 0 for no
+  abbrev flag : ℕ
+  flag = bit (stopped (stateIn image))
+
+  the-answer : stoppedAnswer image ≡ answer Fine (flag ∷ [])
+  unfolding stoppedAnswer
+  the-answer = rw fine
+
+  tells-stopped : TellsStopped image result → SaysStopped image
+  unfolding tabulate
+  tells-stopped tells = go (lt-or-ge (length result) 80)
+    where
+      go : (length result < 80) ⊎ (80 ≤ length result) → SaysStopped image
+      go (inl short) =
+          let ten = short-told result short Fine (flag ∷ []) refl .0 in
+          absurd (omega (arith, ten, rw the-answer at (tells .0)))
+      go (inr room) =
+          let read = done-read (flag ∷ []) (lit≤ tt) result room (omega (arith, bit-le (stopped (stateIn image))), tt) in
+          let yes-told : flag ≡ 1 = sym (ap (λ (a : Answer). value a 0) read) ∙ (rw the-answer at (tells .1)) in
+          the-answer ∙ ap (λ (m : ℕ). answer Fine (m ∷ [])) yes-told
+
+pub suite-demand : SuiteDemand
+suite-demand n home two few below buffer small room calls bytes =
+    let first = freshImage n home buffer in
+    let last = hostImageAll first calls in
+    let shown = hostShownAll first calls in
+    let reached = subst (Reached n last) (nothing-plus shown)
+    (host-calls-kept n calls first nothing bytes (fresh-reached n home two few below buffer small room)) in
+    let all = promised n last shown reached in
+    record {
+      one-place = all .one-place;
+      messages = all .messages;
+      stopped = λ result tells. all .stopped (tells-stopped last result (reached .fine) tells);
+    }

@@ -1,0 +1,90 @@
+-- Lists of the calls that the suite's host makes, and the third demand over them: document 01, "A list of calls", with
+-- step, run and stopped called through plain numbers and byte slices ("The tape"). What a call shows is read from the
+-- number that it returns and from the result slice and the ledger as it leaves them. Assumes nothing.
+use Prim.Native.Nat.{ℕ, _+_, _*_, _≤_, _<_, min}
+use mathlib.Core.Path.{_≡_}
+use mathlib.Core.List.{List, [], _∷_, _++_}
+use lib.ListN.{length, getD}
+use Rattle.machine.specs.Bytes.{Bytes, number}
+use Rattle.machine.specs.Lists.{tabulate}
+use Rattle.machine.specs.Ring.{least, most, imageLength}
+use Rattle.machine.specs.Balance.{Totals}
+use Rattle.machine.specs.Answers.{Answer, freshImage, stepAnswer, stepImage, runAnswer, runImage, runLedger}
+use Rattle.machine.specs.Answers.{stoppedAnswer}
+use Rattle.machine.specs.Host.{returned, resultAfter, lentWith}
+use Rattle.calls.specs.Calls.{nothing, stepShows, runShows, plus}
+use Rattle.calls.specs.Demand.{flagsSet, ownMessageIn}
+
+-- a step with the event's bytes, a run with a tape and a ledger buffer, or stopped; each with a result slice, of any
+-- length, and with the image besides
+pub data HostCall : Type 0 where
+  Step : List ℕ → List ℕ → HostCall
+  Run : List ℕ → List ℕ → List ℕ → HostCall
+  Stopped : List ℕ → HostCall
+
+-- ---- the image
+
+-- the image as a call leaves it; stopped only reads it
+abbrev pub hostImage : List ℕ → HostCall → List ℕ
+hostImage image (Step event result) = lentWith result image (stepImage image event)
+hostImage image (Run tape ledger result) = lentWith result image (runImage image tape ledger)
+hostImage image (Stopped result) = image
+
+-- each call gets the image as the call before it left it
+unfoldable pub hostImageAll : List ℕ → List HostCall → List ℕ
+hostImageAll image [] = image
+hostImageAll image (c ∷ cs) = hostImageAll (hostImage image c) cs
+
+-- ---- what a call shows
+
+-- the answer as the host has it: the number that was returned, and the ten words of the result slice
+abbrev pub answerRead : ℕ → List ℕ → Answer
+answerRead n result = record { number = n; values = tabulate (λ k. number result (8 * k) 8) 0 10 }
+
+-- that of a call whose own answer is a, from the result slice as the call leaves it
+abbrev pub hostAnswer : Answer → List ℕ → Answer
+hostAnswer a result = answerRead (returned a result) (resultAfter a result)
+
+-- one call on an image; stopped adds nothing
+abbrev pub hostShown : List ℕ → HostCall → Totals
+hostShown image (Step event result) = stepShows event (hostAnswer (stepAnswer image event) result)
+hostShown image (Run tape ledger result) =
+    runShows (hostAnswer (runAnswer image tape ledger) result) (lentWith result ledger (runLedger image tape ledger))
+hostShown image (Stopped result) = nothing
+
+-- call after call
+unfoldable pub hostShownAll : List ℕ → List HostCall → Totals
+hostShownAll image [] = nothing
+hostShownAll image (c ∷ cs) = plus (hostShown image c) (hostShownAll (hostImage image c) cs)
+
+-- ---- the demand
+
+-- the stopped call returns 0, and the first word of this result slice then reads 1
+abbrev pub TellsStopped : List ℕ → List ℕ → Type 0
+TellsStopped image result =
+    (returned (stoppedAnswer image) result ≡ 0) × (number (resultAfter (stoppedAnswer image) result) 0 8 ≡ 1)
+
+-- as Promised, but a host learns that the ring is stopped from a result slice
+pub record PromisedToHost (n : ℕ) (image : List ℕ) (t : Totals) : Type 0 where
+  pub one-place : flagsSet image n ≡ 1
+  pub messages : t .filled ≡ t .taken ++ ownMessageIn image
+  pub stopped : (result : List ℕ) → TellsStopped image result
+      → (t .sent ≡ t .got) × (t .got ≡ min (t .puts) (t .gets))
+
+-- what a call is given to read beside the image
+abbrev pub givenByHost : HostCall → List ℕ
+givenByHost (Step event result) = event
+givenByHost (Run tape ledger result) = tape
+givenByHost (Stopped result) = []
+
+-- and that these are bytes, for each call of a list; of ledgers and result slices nothing need be known
+abbrev pub HostBytes : List HostCall → Type 0
+HostBytes calls = (k : ℕ) → k < length calls → Bytes (givenByHost (getD calls k (Stopped [])))
+
+-- for every ring of 2 to 64, every home, every buffer with room for the image, and every list of the host's calls,
+-- refused ones and short result slices included, or none, from what the fresh ring call writes
+abbrev pub SuiteDemand : Type 0
+SuiteDemand =
+    (n home : ℕ) → least ≤ n → n ≤ most → home < n → (buffer : List ℕ) → Bytes buffer → imageLength n ≤ length buffer
+    → (calls : List HostCall) → HostBytes calls
+    → PromisedToHost n (hostImageAll (freshImage n home buffer) calls) (hostShownAll (freshImage n home buffer) calls)
