@@ -104,7 +104,9 @@ module _ {n : ℕ} {image : List ℕ} {t : Totals} (before : Reached n image t) 
         (by-verdict (λ w. Reached n (lent w image (imageWith image (apply st v)))
         (plus t (stepShows event (answer w values))))
         (eventVerdict codes (sizeIn image) event) step-done
-        (λ r. subst (λ (u : Totals). Reached n image (plus t u)) (sym (step-refused event (answer (Refused r) values) (number-range r .0))) unchanged))
+        (λ r.
+        subst (λ (u : Totals). Reached n image (plus t u))
+        (sym (step-refused event (answer (Refused r) values) (number-range r .0))) unchanged))
 
   -- ---- a run
 
@@ -143,7 +145,9 @@ module _ {n : ℕ} {image : List ℕ} {t : Totals} (before : Reached n image t) 
         (by-verdict (λ w. Reached n (lent w image (imageWith image (after st vs)))
         (plus t (runShows (answer w values) (lent w ledger (splice ledger 0 records)))))
         (orElse test room) (λ accepted. run-done (first-fine test room accepted))
-        (λ r. subst (λ (u : Totals). Reached n image (plus t u)) (sym (run-refused ledger (answer (Refused r) values) (number-range r .0))) unchanged))
+        (λ r.
+        subst (λ (u : Totals). Reached n image (plus t u))
+        (sym (run-refused ledger (answer (Refused r) values) (number-range r .0))) unchanged))
 
   -- ---- any call
 

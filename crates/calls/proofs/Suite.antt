@@ -1,14 +1,14 @@
--- The third demand over the calls of the suite's host. With a result slice of at least 80 bytes a call leaves the image
--- as the call itself does, and what is read back shows the same: the values fit their words, since messages have 32 bits
--- and a run has at most 4,128,768 events. With a shorter slice a call leaves the image, and the number that it returns
--- isn't 0, so that it shows nothing. So every call keeps what Calls.Reached says. Assumes nothing.
-use Prim.Native.Nat.{ℕ, suc, _+_, _-_, _≤_, _<_}
+-- The third demand over the calls of the suite's host. With a result slice of at least 80 bytes a call leaves the
+-- image as the call itself does, and what is read back shows the same: the values fit their words, since messages have
+-- 32 bits and a run has at most 4,128,768 events. With a shorter slice a call leaves the image, and the number that it
+-- returns isn't 0, so that it shows nothing. So every call keeps what Calls.Reached says. Assumes nothing.
+use Prim.Native.Nat.{ℕ, suc, _+_, _-_, _^_, _≤_, _<_}
 use mathlib.Core.Path.{_≡_, refl, sym, ap, ap₂, subst, _∙_}
 use mathlib.Core.List.{List, [], _∷_, _++_}
 use mathlib.Core.Logic.{_⊎_, inl, inr}
 use native.Mathlib.Omega.{arith}
 use lib.ListN.{length, replicate}
-use lib.Dec.{lit≤}
+use lib.Dec.{lit<, lit≤}
 use Rattle.machine.specs.declared.Counts.{Counts}
 use Rattle.machine.specs.declared.Outcome.{Outcome}
 use Rattle.machine.specs.declared.Outcome.the-variants.{Idle, Moved, Fill, Take, Sent, Got}
@@ -36,6 +36,7 @@ use Rattle.ledger.proofs.Bounds.{none-above-le, none-above-start, counted-above
 use Rattle.tape.proofs.Events.{length-events, events-few}
 use Rattle.result.specs.Short.{tooShort}
 use Rattle.result.proofs.Read.{FitWords, values-read}
+use Rattle.result.proofs.Read.FitWords.{none, one}
 use Rattle.result.proofs.Told.{lent-as-left, done-told, refused-told, lent-untouched, short-told}
 use Rattle.calls.specs.Calls.{nothing, value, stepShows, runShows, plus}
 use Rattle.calls.specs.Calls.Call.{Step as StepCall, Run as RunCall}
@@ -83,13 +84,25 @@ module _ (values : List ℕ) (few : length values ≤ 10) (result : List ℕ) wh
 
 -- ---- values fit their words
 
-outcome-few : (o : Outcome) → outcomeNumber o ≤ 5
-outcome-few Idle = lit≤ tt
-outcome-few Moved = lit≤ tt
-outcome-few (Fill m) = lit≤ tt
-outcome-few (Take m) = lit≤ tt
-outcome-few Sent = lit≤ tt
-outcome-few Got = lit≤ tt
+outcome-fits : (o : Outcome) → outcomeNumber o < 2 ^ 64
+outcome-fits Idle = lit< tt
+outcome-fits Moved = lit< tt
+outcome-fits (Fill m) = lit< tt
+outcome-fits (Take m) = lit< tt
+outcome-fits Sent = lit< tt
+outcome-fits Got = lit< tt
+
+message-fits : {n : ℕ} → n < 2 ^ 32 → n < 2 ^ 64
+message-fits small = omega arith
+
+count-fits : {n : ℕ} → n ≤ 4128768 → n < 2 ^ 64
+count-fits few = omega arith
+
+counts-fit : {c : Counts} → NoneAbove 4128768 c → FitWords (countValues c)
+counts-fit c =
+    one (count-fits (c .puts)) (one (count-fits (c .gets)) (one (count-fits (c .fills)) (one (count-fits (c .takes))
+    (one (count-fits (c .sent)) (one (count-fits (c .got)) (one (count-fits (c .idle))
+    (one (count-fits (c .records)) none)))))))
 
 -- no count is above the number of events
 counts-few : (vs : List Event) (st : State) (k : ℕ) {c : Counts} → NoneAbove k c
@@ -109,7 +122,7 @@ module _ (image : List ℕ) (small : Bytes image) where
       let below = event-below (sizeIn image) event (second-fine (imageVerdict image) _ fine) in
       let message = outcome-small st v (omega (arith, length-state image)) (number-lt event 4 bytes)
       (read-in-range image small) in
-      (omega (arith, outcome-few (outcome st v)), (omega arith, tt))
+      one (outcome-fits (outcome st v)) (one (message-fits message) none)
 
   run-fits : (tape ledger : List ℕ) → runVerdict image tape ledger ≡ Fine
       → FitWords (countValues (countsFrom noCounts (stateIn image) (runEvents tape)))
@@ -117,21 +130,9 @@ module _ (image : List ℕ) (small : Bytes image) where
   run-fits tape ledger fine =
       let tests = tapeVerdict codes (sizeIn image) tape in
       let accepted = first-fine tests _ (second-fine (imageVerdict image) _ fine) in
-      let none = counts-few (runEvents tape) (stateIn image) 0 none-above-start in
-      let above = none-above-le {m = 4128768}
-      (omega (arith, length-events tape, events-few codes (sizeIn image) tape accepted)) none in (
-        omega arith,
-        (
-          omega arith,
-          (
-            omega arith,
-            (
-              omega arith,
-              (omega arith, (omega arith, (omega arith, (omega arith, tt)))),
-            ),
-          ),
-        ),
-      )
+      let counts = counts-few (runEvents tape) (stateIn image) 0 none-above-start in
+      let few = events-few codes (sizeIn image) tape accepted in
+      counts-fit (none-above-le (omega (arith, length-events tape)) counts)
 
 -- ---- every call keeps what is known
 
@@ -206,9 +207,10 @@ module _ (image result : List ℕ) (fine : imageVerdict image ≡ Fine) where
           let ten = short-told result short Fine (flag ∷ []) refl .0 in
           absurd (omega (arith, ten, rw the-answer at (tells .0)))
       go (inr room) =
-          let read = done-read (flag ∷ []) (lit≤ tt) result room (omega (arith, bit-le (stopped (stateIn image))), tt) in
-          let yes-told : flag ≡ 1 = sym (ap (λ (a : Answer). value a 0) read) ∙ (rw the-answer at (tells .1)) in
-          the-answer ∙ ap (λ (m : ℕ). answer Fine (m ∷ [])) yes-told
+          let fits : flag < 2 ^ 64 = omega (arith, bit-le (stopped (stateIn image))) in
+          let read = done-read (flag ∷ []) (lit≤ tt) result room (one fits none) in
+          let told : flag ≡ 1 = sym (ap (λ (a : Answer). value a 0) read) ∙ (rw the-answer at (tells .1)) in
+          the-answer ∙ ap (λ (m : ℕ). answer Fine (m ∷ [])) told
 
 pub suite-demand : SuiteDemand
 suite-demand n home two few below buffer small room calls bytes =
