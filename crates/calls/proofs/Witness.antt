@@ -1,6 +1,6 @@
 -- The demand is not empty: entry 1's events by a run, a step and another run, with refused and stopped calls in
--- between, make a list that ends stopped, with all that can happen in it; so they do as the suite's host makes them.
--- The checker computes it. Assumes nothing.
+-- between, make a list that ends stopped, with all that can happen in it; and the suite's host is told of a start and
+-- of a stopped ring. The checker computes it. Assumes nothing.
 use Prim.Native.Nat.{ℕ, _≤_, _<_}
 use mathlib.Core.Path.{_≡_, refl}
 use mathlib.Core.Bool.{Bool, true}
@@ -22,8 +22,8 @@ use Rattle.machine.proofs.Entries.{firstTen, lastTen, ring}
 use Rattle.calls.specs.Calls.{Call, imageAfterAll, ledgerMessages, shownByAll}
 use Rattle.calls.specs.Calls.Call.{Step, Run, Stopped}
 use Rattle.calls.specs.Demand.{SaysStopped, Promised, given, GivenBytes}
-use Rattle.calls.specs.Suite.{HostCall, hostImageAll, hostShownAll, TellsStopped}
-use Rattle.calls.specs.Suite.HostCall.{Step as HostStep, Run as HostRun, Stopped as HostStopped}
+use Rattle.calls.specs.Suite.{HostCall, hostShownAll, TellsStopped}
+use Rattle.calls.specs.Suite.HostCall.{Step as HostStep}
 use Rattle.calls.proofs.Demand.{demand-three}
 
 -- a tape whose event 1 is at process 2
@@ -48,27 +48,22 @@ pub all-ended :
 unfolding rules ring firstTen lastTen offRing calls imageAfterAll ledgerMessages shownByAll
 all-ended = (refl, refl)
 
--- ---- the same through the suite's host
+-- ---- through the suite's host
 
 -- a result slice with other bytes in it
 abbrev result : List ℕ
 result = replicate 81 255
 
--- the same calls; the first run is made once more before, with a result slice that is a byte too short
+-- a get is started, first with a result slice that is a byte too short: that call shows nothing
 unfoldable pub hostCalls : List HostCall
-hostCalls =
-    HostStep [] result ∷ HostRun offRing [] result
-    ∷ HostRun (tapeOf firstTen) (replicate 12 255) (replicate 79 255)
-    ∷ HostRun (tapeOf firstTen) (replicate 12 255) result ∷ HostStopped result ∷ HostStep (event 0 1 0) result
-    ∷ HostRun (tapeOf (drop 8 lastTen)) (replicate 37 255) result ∷ []
+hostCalls = HostStep (event 0 1 0) (replicate 79 255) ∷ HostStep (event 0 1 0) result ∷ []
 
--- they show the same, and the ring is told to be stopped
-pub all-told :
-    (hostShownAll ring hostCalls ≡ record { puts = 1; gets = 1; sent = 1; got = 1; filled = 7 ∷ []; taken = 7 ∷ [] })
-    × TellsStopped (hostImageAll ring hostCalls) result
-unfolding rules ring firstTen lastTen offRing hostCalls hostImageAll ledgerMessages hostShownAll returned wordsOf
-    resultBytes resultAfter lentWith
-all-told = (refl, (refl, refl))
+-- before them the ring is told to be stopped
+pub one-told :
+    (hostShownAll ring hostCalls ≡ record { puts = 0; gets = 1; sent = 0; got = 0; filled = []; taken = [] })
+    × TellsStopped ring result
+unfolding rules ring hostCalls hostShownAll returned wordsOf resultBytes resultAfter lentWith
+one-told = (refl, (refl, refl))
 
 -- ---- the demand speaks of this list
 
