@@ -1,4 +1,5 @@
 -- Laws of the result slice.
 pub mod Words
 pub mod Told
+pub mod Short
 pub mod Read

@@ -23,6 +23,11 @@ use Rattle.result.specs.Short.{tooShort}
 abbrev pub Tells : Answer → List ℕ → ℕ → List ℕ → Type 0
 Tells a result n t = (n ≡ returned a result) × (t ≡ resultAfter a result)
 
+-- and the same with another slice, which the call itself leaves as `done`
+abbrev pub Leaves : Answer → List ℕ → List ℕ → List ℕ → ℕ → List ℕ → List ℕ → Type 0
+Leaves a result before done n t u =
+    (n ≡ returned a result) × ((t ≡ lentWith result before done) × (u ≡ resultAfter a result))
+
 -- ---- at least 80 bytes
 
 module _ (result : List ℕ) (room : 80 ≤ length result) where
@@ -51,19 +56,33 @@ module _ (result : List ℕ) (room : 80 ≤ length result) where
       → Tells a result n t
   refused-told r is number wrote = rw (← is, number) (answered (answer (Refused r) []) wrote)
 
+  module _ (before : List ℕ) {done t : List ℕ} (left : t ≡ done) where
+    leaves : (a : Answer) {n : ℕ} {u : List ℕ} → Tells a result n u → Leaves a result before done n t u
+    leaves a tells = (tells .0, (lent-as-left before left, tells .1))
+
+    pub done-left : {a : Answer} {u : List ℕ} (values : List ℕ) → answer Fine values ≡ a
+        → u ≡ splice result 0 (resultBytes values)
+        → Leaves a result before done 0 t u
+    done-left values is wrote = leaves _ (done-told values is wrote)
+
+    pub refused-left : {a : Answer} {n : ℕ} {u : List ℕ} (r : Refusal) → answer (Refused r) [] ≡ a → n ≡ numberOf r
+        → u ≡ splice result 0 (resultBytes (placeOf r ∷ []))
+        → Leaves a result before done n t u
+    refused-left r is number wrote = leaves _ (refused-told r is number wrote)
+
 -- ---- fewer
 
 module _ (result : List ℕ) (short : length result < 80) where
-  leaves : takesResult result ≡ false
-  leaves = lt-leb 80 (length result) short
+  takes-not : takesResult result ≡ false
+  takes-not = lt-leb 80 (length result) short
 
   pub lent-untouched : (before done : List ℕ) → before ≡ lentWith result before done
   unfolding lentWith
-  lent-untouched before done = rw leaves
+  lent-untouched before done = rw takes-not
 
   number-short : (v : Verdict) (values : List ℕ) → numberOf (tooShort v) ≡ returned (answer v values) result
   unfolding returned
-  number-short Fine values = rw leaves
+  number-short Fine values = rw takes-not
   number-short (Refused r) values =
       let some : eqb (numberOf r) 0 ≡ false = ne-eqb (numberOf r) 0 (λ none. omega (arith, number-range r .0)) in
       rw some
@@ -71,4 +90,10 @@ module _ (result : List ℕ) (short : length result < 80) where
   pub short-told : {n : ℕ} (v : Verdict) (values : List ℕ) → n ≡ numberOf (tooShort v)
       → Tells (answer v values) result n result
   unfolding resultAfter
-  short-told v values number = (number ∙ number-short v values, rw leaves)
+  short-told v values number = (number ∙ number-short v values, rw takes-not)
+
+  pub short-left : (before done : List ℕ) {n : ℕ} (v : Verdict) (values : List ℕ) → n ≡ numberOf (tooShort v)
+      → Leaves (answer v values) result before done n before result
+  short-left before done v values number =
+      let tells = short-told v values number in
+      (tells .0, (lent-untouched before done, tells .1))

@@ -1,18 +1,15 @@
 -- Each way through the tests of a call whose result slice is too short: the first refusal is the rule's, and past all
--- tests it is 10. A run's ledger needs no test, since it could only be refused with 10 as well. Assumes nothing.
+-- tests it is 10. Assumes nothing.
 use Prim.Native.Nat.{ℕ}
-use mathlib.Core.Path.{_≡_, refl, _∙_}
-use mathlib.Core.Bool.{Bool, true, false}
+use mathlib.Core.Path.{_≡_, _∙_}
 use mathlib.Core.List.{List}
-use lib.ListN.{length}
-use lib.Dec.{leb}
 use Rattle.machine.specs.declared.Refusal.{Refusal}
 use Rattle.machine.specs.declared.Refusal.the-variants as refusal
 use Rattle.machine.specs.declared.Verdict.{Verdict}
 use Rattle.machine.specs.declared.Verdict.the-variants as verdict
 use Rattle.machine.specs.Image.{sizeIn}
 use Rattle.machine.specs.Tape.{eventIn}
-use Rattle.machine.specs.Refusals.{unless, orElse, codes, imageVerdict, eventVerdict, tapeVerdict, outputVerdict}
+use Rattle.machine.specs.Refusals.{orElse, codes, imageVerdict, eventVerdict, tapeVerdict}
 use Rattle.machine.specs.Answers.{stepVerdict}
 use Rattle.image.specs.declared.Ring.{Ring}
 use Rattle.sound.specs.declared.Checked.{Checked}
@@ -29,13 +26,7 @@ use Rattle.blocks.specs.declared.Counted.the-variants as counted
 use Rattle.blocks.specs.Counted.{countedAs, eventsOn}
 use Rattle.blocks.proofs.Apart as tape-test
 use Rattle.result.specs.Short.{tooShort}
-
--- a verdict that refuses, and one that doesn't
-refuses : (v : Verdict) {r : Refusal} → v ≡ verdict.Refused r → r ≡ tooShort v
-refuses v e = rw e
-
-passes : (v : Verdict) → v ≡ verdict.Fine → refusal.Output ≡ tooShort v
-passes v e = rw e
+use Rattle.result.proofs.Short.{refuses, passes}
 
 module _ (s : List ℕ) {c : Checked} (test : c ≡ checkedAs (imageVerdict s) (sizeIn s)) where
   -- ---- the image
@@ -102,18 +93,3 @@ module _ (s : List ℕ) {c : Checked} (test : c ≡ checkedAs (imageVerdict s) (
       pub tape-passes : {k : ℕ} → d ≡ counted.Done k → refusal.Output ≡ tooShort both
       tape-passes e =
           passes verdict-of-tape (tape-test.done-fine verdict-of-tape (eventsOn tape) read e) ∙ by-tape
-
--- ---- the ledger of a run
-
--- too short or not, it is 10
-ledger-ten : (b : Bool) → refusal.Output ≡ tooShort (unless b refusal.Output)
-ledger-ten true = refl
-ledger-ten false = refl
-
--- so it needn't be measured
-pub ledger-unmeasured : (image tape : Verdict) (needed : ℕ) (ledger : List ℕ)
-    → tooShort (orElse image tape) ≡ tooShort (orElse image (orElse tape (outputVerdict needed ledger)))
-unfolding outputVerdict
-ledger-unmeasured verdict.Fine verdict.Fine needed ledger = ledger-ten (leb needed (length ledger))
-ledger-unmeasured verdict.Fine (verdict.Refused r) needed ledger = refl
-ledger-unmeasured (verdict.Refused r) tape needed ledger = refl

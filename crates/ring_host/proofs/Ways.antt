@@ -27,45 +27,38 @@ use Rattle.stopped.specs.declared.StoppedAnswer.the-variants as stopped-answer
 use Rattle.stopped.specs.Stopped as stopped
 use Rattle.result.specs.Short.{tooShort}
 use Rattle.result.proofs.Words.{told-in-ten}
+use Rattle.result.proofs.Short.{output-unmeasured}
 use Rattle.result.proofs.Told.{Tells, lent-as-left, done-told, refused-told, lent-untouched, short-told}
-use Rattle.ring_host.proofs.Short.{ledger-unmeasured}
+use Rattle.result.proofs.Told.{Leaves, done-left, refused-left, short-left}
 
 -- ---- step
 
 module _ (image event result : List ℕ) where
   -- what the contract says of the number, the image and the result slice
   abbrev Stepped : ℕ → List ℕ → List ℕ → Type 0
-  Stepped n t u =
-      (n ≡ returned (stepAnswer image event) result)
-      × ((t ≡ lentWith result image (stepImage image event)) × (u ≡ resultAfter (stepAnswer image event) result))
+  Stepped n t u = Leaves (stepAnswer image event) result image (stepImage image event) n t u
 
   pub step-short : length result < 80 → {n : ℕ} {r : Refusal} → r ≡ tooShort (stepVerdict image event) → n ≡ numberOf r
       → Stepped n image result
   unfolding stepAnswer
   step-short short is number =
-      let tells = short-told result short (stepVerdict image event) _ (number ∙ ap numberOf is) in
-      (tells .0, (lent-untouched result short image (stepImage image event), tells .1))
+      short-left result short image (stepImage image event) (stepVerdict image event) _ (number ∙ ap numberOf is)
 
-  module _ (room : 80 ≤ length result) {t : List ℕ} (left : t ≡ stepImage image event) where
-    -- the number and the result slice, with the image as the step left it
-    stepped : {n : ℕ} {u : List ℕ} → Tells (stepAnswer image event) result n u → Stepped n t u
-    stepped tells = (tells .0, (lent-as-left result room image left, tells .1))
+  module _ (room : 80 ≤ length result) {t : List ℕ} (left : t ≡ stepImage image event) {a : StepAnswer}
+      (says : step.told a ≡ stepAnswer image event) where
+    pub step-refused : {n : ℕ} {u : List ℕ} (r : Refusal) → a ≡ step-answer.Refused r → n ≡ numberOf r
+        → u ≡ splice result 0 (resultBytes (placeOf r ∷ []))
+        → Stepped n t u
+    step-refused r is number wrote =
+        refused-left result room image left r (sym (ap step.told is) ∙ says) number wrote
 
-    module _ {a : StepAnswer} (says : step.told a ≡ stepAnswer image event) where
-      pub step-refused : {n : ℕ} {u : List ℕ} (r : Refusal) → a ≡ step-answer.Refused r → n ≡ numberOf r
-          → u ≡ splice result 0 (resultBytes (placeOf r ∷ []))
-          → Stepped n t u
-      step-refused r is number wrote =
-          stepped (refused-told result room r (sym (ap step.told is) ∙ says) number wrote)
-
-      pub step-done : {number message : ℕ} {u : List ℕ} (o : Outcome) → a ≡ step-answer.Done o
-          → number ≡ outcomeNumber o → message ≡ outcomeMessage o
-          → u ≡ splice result 0 (wordsOf (number ∷ message ∷ replicate 8 0))
-          → Stepped 0 t u
-      step-done o is number message wrote =
-          stepped
-          (done-told result room (outcomeValues o) (sym (ap step.told is) ∙ says)
-          (told-in-ten result (outcomeValues o) (lit≤ tt) (rw (number, message) at wrote)))
+    pub step-done : {number message : ℕ} {u : List ℕ} (o : Outcome) → a ≡ step-answer.Done o
+        → number ≡ outcomeNumber o → message ≡ outcomeMessage o
+        → u ≡ splice result 0 (wordsOf (number ∷ message ∷ replicate 8 0))
+        → Stepped 0 t u
+    step-done o is number message wrote =
+        done-left result room image left (outcomeValues o) (sym (ap step.told is) ∙ says)
+        (told-in-ten result (outcomeValues o) (lit≤ tt) (rw (number, message) at wrote))
 
 -- ---- run
 
@@ -85,7 +78,7 @@ module _ (image tape ledger result : List ℕ) where
   unfolding runAnswer runVerdict
   run-short short is number =
       let tests = tapeVerdict codes (sizeIn image) tape in
-      let unmeasured = ledger-unmeasured (imageVerdict image) tests (length (runRecords image tape)) ledger in
+      let unmeasured = output-unmeasured (imageVerdict image) tests (length (runRecords image tape)) ledger in
       let tells = short-told result short (runVerdict image tape ledger) _ (number ∙ ap numberOf (is ∙ unmeasured)) in (
         tells .0,
         (
