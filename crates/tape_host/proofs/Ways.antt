@@ -1,0 +1,85 @@
+-- Each way through the three calls of this host is that way through the rule: with a short result slice the tests
+-- alone, else the call's own answer, told. The answers of lower functions are variables here, each with the rule's
+-- value that it is known to be. Assumes nothing.
+use Prim.Native.Nat.{ℕ, _≤_, _<_}
+use mathlib.Core.Path.{_≡_, sym, ap, _∙_}
+use mathlib.Core.List.{List, [], _∷_}
+use lib.ListN.{length, replicate}
+use lib.Dec.{lit≤}
+use Rattle.machine.specs.declared.Refusal.{Refusal}
+use Rattle.machine.specs.Bytes.{splice}
+use Rattle.machine.specs.Tape.{listOf, tapeOf}
+use Rattle.machine.specs.Refusals.{numberOf, placeOf, orElse, codes, sizeVerdict, listVerdict, tapeVerdict}
+use Rattle.machine.specs.Answers.{Answer, freshVerdict, freshAnswer, freshImage, writeVerdict, writeAnswer, writeOutput}
+use Rattle.machine.specs.Answers.{readVerdict, readAnswer, readOutput}
+use Rattle.machine.specs.Host.{wordsOf, resultBytes}
+use Rattle.image.specs.declared.FreshAnswer.{FreshAnswer}
+use Rattle.image.specs.declared.FreshAnswer.the-variants as fresh-answer
+use Rattle.image.specs.Fresh as fresh
+use Rattle.tape.specs.declared.Filled.{Filled}
+use Rattle.tape.specs.declared.Filled.the-variants as filled-answer
+use Rattle.tape.specs.Filled as filled
+use Rattle.result.specs.Short.{tooShort}
+use Rattle.result.proofs.Words.{told-in-ten}
+use Rattle.result.proofs.Short.{output-unmeasured}
+use Rattle.result.proofs.Told.{Leaves, done-left, refused-left, short-left}
+
+-- ---- a short result slice
+
+module _ (result : List ℕ) (short : length result < 80) (n : ℕ) where
+  pub fresh-short : (home : ℕ) (image : List ℕ) {m : ℕ} {r : Refusal} → r ≡ tooShort (freshVerdict n home image)
+      → m ≡ numberOf r
+      → Leaves (freshAnswer n home image) result image (freshImage n home image) m image result
+  unfolding freshAnswer
+  fresh-short home image is number =
+      short-left result short image (freshImage n home image) (freshVerdict n home image) _ (number ∙ ap numberOf is)
+
+  pub write-short : (list output : List ℕ) {m : ℕ} {r : Refusal}
+      → r ≡ tooShort (orElse (sizeVerdict n) (listVerdict codes n list))
+      → m ≡ numberOf r
+      → Leaves (writeAnswer n list output) result output (writeOutput n list output) m output result
+  unfolding writeAnswer writeVerdict
+  write-short list output is number =
+      let unmeasured = output-unmeasured (sizeVerdict n) (listVerdict codes n list) (length (tapeOf list)) output in
+      short-left result short output (writeOutput n list output) (writeVerdict n list output) _
+      (number ∙ ap numberOf (is ∙ unmeasured))
+
+  pub read-short : (tape output : List ℕ) {m : ℕ} {r : Refusal}
+      → r ≡ tooShort (orElse (sizeVerdict n) (tapeVerdict codes n tape))
+      → m ≡ numberOf r
+      → Leaves (readAnswer n tape output) result output (readOutput n tape output) m output result
+  unfolding readAnswer readVerdict
+  read-short tape output is number =
+      let unmeasured = output-unmeasured (sizeVerdict n) (tapeVerdict codes n tape) (length (listOf tape)) output in
+      short-left result short output (readOutput n tape output) (readVerdict n tape output) _
+      (number ∙ ap numberOf (is ∙ unmeasured))
+
+-- ---- at least 80 bytes
+
+module _ (result : List ℕ) (room : 80 ≤ length result) (before : List ℕ) {done t : List ℕ} (left : t ≡ done)
+    {a : Answer} where
+  -- a fresh ring
+  module _ {f : FreshAnswer} (says : fresh.told f ≡ a) where
+    pub fresh-refused : {m : ℕ} {u : List ℕ} (r : Refusal) → f ≡ fresh-answer.Refused r → m ≡ numberOf r
+        → u ≡ splice result 0 (resultBytes (placeOf r ∷ []))
+        → Leaves a result before done m t u
+    fresh-refused r is number wrote =
+        refused-left result room before left r (sym (ap fresh.told is) ∙ says) number wrote
+
+    pub fresh-done : {u : List ℕ} → f ≡ fresh-answer.Done → u ≡ splice result 0 (wordsOf (replicate 10 0))
+        → Leaves a result before done 0 t u
+    fresh-done is wrote =
+        done-left result room before left [] (sym (ap fresh.told is) ∙ says) (told-in-ten result [] (lit≤ tt) wrote)
+
+  -- writer and reader
+  module _ {f : Filled} (says : filled.told f ≡ a) where
+    pub filled-refused : {m : ℕ} {u : List ℕ} (r : Refusal) → f ≡ filled-answer.Refused r → m ≡ numberOf r
+        → u ≡ splice result 0 (resultBytes (placeOf r ∷ []))
+        → Leaves a result before done m t u
+    filled-refused r is number wrote =
+        refused-left result room before left r (sym (ap filled.told is) ∙ says) number wrote
+
+    pub filled-done : {u : List ℕ} (bytes : ℕ) → f ≡ filled-answer.Done bytes
+        → u ≡ splice result 0 (resultBytes (bytes ∷ []))
+        → Leaves a result before done 0 t u
+    filled-done bytes is wrote = done-left result room before left (bytes ∷ []) (sym (ap filled.told is) ∙ says) wrote

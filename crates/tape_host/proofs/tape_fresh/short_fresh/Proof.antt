@@ -1,0 +1,50 @@
+-- Each refusal is the rule's first; past the tests it is 10. Assumes nothing.
+use mathlib.Core.Path.{sym, _∙_}
+use native.Mathlib.Omega.{arith}
+use borrow.Author.Tests.{not-true, not-false}
+use Rattle.machine.specs.Answers.{freshVerdict}
+use Rattle.machine.proofs.Refusals.{SizeFits, size-fits, fresh-no-size, fresh-no-home, fresh-short, fresh-whole}
+use Rattle.result.proofs.Short.{refuses, passes}
+use Rattle.tape_host.proofs.tape_fresh.short_fresh.Statement.{statement}
+use Rattle.tape_host.proofs.tape_fresh.short_fresh.Tie as tie
+
+-- past the first test
+size : (c : tie.Else1) → SizeFits (c .before .before .before .args .n)
+size c = size-fits (c .before .before .before .args .n) (sym (c .before .fits2 .ensures) ∙ not-false _ (c .if1 .left))
+
+fits-requires : tie.Need-fits-requires
+fits-requires c κs = tt
+
+returns : tie.Need-returns
+returns c =
+    let a = c .before .before .before .args in
+    refuses (freshVerdict (a .n) (a .home) (a .image .now))
+    (fresh-no-size (a .n) (a .home) (a .image .now) (sym (c .before .fits2 .ensures) ∙ not-true _ (c .if1 .taken)))
+
+returns-2 : tie.Need-returns-2
+returns-2 c =
+    let a = c .before .before .before .before .args in
+    refuses (freshVerdict (a .n) (a .home) (a .image .now))
+    (fresh-no-home (a .n) (a .home) (a .image .now) (size (c .before)) (omega (arith, c .if2 .taken)))
+
+mul-if3 : tie.Need-mul-if3
+mul-if3 c = omega (arith, size (c .before) .most)
+
+add-if3 : tie.Need-add-if3
+add-if3 c = omega (arith, size (c .before) .most)
+
+returns-3 : tie.Need-returns-3
+returns-3 c =
+    let a = c .before .before .before .before .before .args in
+    refuses (freshVerdict (a .n) (a .home) (a .image .now))
+    (fresh-short (a .n) (a .home) (a .image .now) (size (c .before .before)) (c .before .if2 .left) (c .if3 .taken))
+
+returns-4 : tie.Need-returns-4
+returns-4 c =
+    let a = c .before .before .before .before .before .args in
+    passes (freshVerdict (a .n) (a .home) (a .image .now))
+    (fresh-whole (a .n) (a .home) (a .image .now) (size (c .before .before)) (c .before .if2 .left) (c .if3 .left))
+
+pub short-fresh-spec : {M : Type 1} → statement M
+short-fresh-spec =
+    tie.close (tie.spec fits-requires returns returns-2 mul-if3 add-if3 returns-3 returns-4)
