@@ -14,7 +14,8 @@ fits-requires c κs = tt
 returns : tie.Need-returns
 returns c =
     let a = c .before .before .before .args in
-    size-refuses (a .n) (tapeVerdict codes (a .n) (a .tape .now)) (c .before .fits2 .ensures) (not-true _ (c .if1 .taken))
+    size-refuses (a .n) (tapeVerdict codes (a .n) (a .tape .now)) (c .before .fits2 .ensures)
+    (not-true _ (c .if1 .taken))
 
 of-requires : tie.Need-of-requires
 of-requires c κs = tt

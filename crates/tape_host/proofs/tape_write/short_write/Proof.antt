@@ -13,7 +13,8 @@ fits-requires c κs = tt
 returns : tie.Need-returns
 returns c =
     let a = c .before .before .before .args in
-    size-refuses (a .n) (listVerdict codes (a .n) (a .list .now)) (c .before .fits2 .ensures) (not-true _ (c .if1 .taken))
+    size-refuses (a .n) (listVerdict codes (a .n) (a .list .now)) (c .before .fits2 .ensures)
+    (not-true _ (c .if1 .taken))
 
 list-verdict-requires : tie.Need-list-verdict-requires
 list-verdict-requires c κs = tt
