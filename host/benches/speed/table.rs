@@ -1,0 +1,70 @@
+//! The printed table: a line's name, what both sides took, and how many times as fast Rattle is.
+
+use crate::timing::Medians;
+
+/// The unit that a line's numbers are in.
+#[derive(Clone, Copy)]
+pub enum Unit {
+    Event,
+    Call,
+    Byte,
+}
+
+/// The lines printed so far, those with a factor to be printed at the end, and the filter.
+pub struct Table {
+    filter: String,
+    ratios: Vec<f64>,
+    growth: Vec<(String, Medians, Medians)>,
+}
+
+impl Table {
+    pub fn new(filter: String) -> Table {
+        Table { filter, ratios: Vec::new(), growth: Vec::new() }
+    }
+
+    /// Whether a line is asked for.
+    pub fn wants(&self, name: &str) -> bool {
+        name.contains(&self.filter)
+    }
+
+    pub fn start(&self) {
+        println!("Medians of rounds by turns; the ratio is plain over Rattle in time: above 1 Rattle is faster.");
+        println!("{:<36} {:>10} {:>10} {:>10} {:>8}  ", "line", "unit", "Rattle", "plain", "ratio");
+    }
+
+    /// Prints a line, with a remark.
+    pub fn line(&mut self, name: &str, unit: Unit, taken: Medians, remark: &str) {
+        let ratio = taken.ratio;
+        let (unit, rattle, plain) = match unit {
+            Unit::Event => ("ns/event", taken.rattle, taken.plain),
+            Unit::Call => ("ns/call", taken.rattle, taken.plain),
+            Unit::Byte => ("GB/s", 1.0 / taken.rattle, 1.0 / taken.plain),
+        };
+        println!("{name:<36} {unit:>10} {rattle:>10.2} {plain:>10.2} {ratio:>8.2}  {remark}");
+        self.ratios.push(ratio);
+    }
+
+    /// Keeps what one event took with 64 and with 65,536 blocks for the end.
+    pub fn keep_growth(&mut self, name: String, few: Medians, many: Medians) {
+        self.growth.push((name, few, many));
+    }
+
+    pub fn end(&self) {
+        if !self.growth.is_empty() {
+            println!();
+            println!("An event at 65,536 blocks over one at 64 blocks, in time");
+            println!("{:<36} {:>10} {:>10} {:>10}", "kind", "", "Rattle", "plain");
+        }
+        for (name, few, many) in &self.growth {
+            let (rattle, plain) = (many.rattle / few.rattle, many.plain / few.plain);
+            println!("{name:<36} {:>10} {rattle:>10.2} {plain:>10.2}", "");
+        }
+        if !self.ratios.is_empty() {
+            let logs: f64 = self.ratios.iter().map(|ratio| ratio.ln()).sum();
+            let least = self.ratios.iter().copied().fold(f64::INFINITY, f64::min);
+            let mean = (logs / self.ratios.len() as f64).exp();
+            println!();
+            println!("{} lines: ratio {mean:.2} in the geometric mean, {least:.2} at least", self.ratios.len());
+        }
+    }
+}

@@ -1,0 +1,395 @@
+//! The lists of requests that cross the envelope on a link, each the shortest of its kind from the
+//! fresh ring with home 0: one for each kind, one for each way to begin, and the further kinds.
+
+/// A status, as the header has it and as requests are numbered: full is bit 0 of two bits, empty
+/// bit 1.
+#[derive(Clone, Copy, PartialEq)]
+pub struct Status {
+    pub header: u8,
+    pub bit: u8,
+}
+
+pub const FULL: Status = Status { header: 1, bit: 0 };
+pub const EMPTY: Status = Status { header: 0, bit: 1 };
+
+/// What is known of a crossing beside its kind.
+#[derive(Clone, Copy, PartialEq)]
+pub enum Way {
+    Any,
+    /// It begins as the envelope leaves against a waiting request.
+    Leaves,
+    /// It begins as the request is asked while the envelope is under way.
+    Asks,
+    /// The asker's bit is already off.
+    Old,
+    /// The asker itself waits for the status it asked for, or doesn't.
+    OwnWish,
+    NotOwnWish,
+    /// Both requests cross.
+    Both,
+}
+
+/// A request crosses the envelope at the end of a list of events `process.code`.
+pub struct Crossing {
+    pub n: u64,
+    pub request: Status,
+    pub envelope: Status,
+    pub way: Way,
+    pub list: &'static str,
+}
+
+pub const CROSSINGS: [Crossing; 52] = [
+    Crossing { n: 2, request: FULL, envelope: EMPTY, way: Way::Any, list: "0.1 1.0 1.3 1.7 0.6 0.7 0.3 0.7 1.5 1.7" },
+    Crossing {
+        n: 2,
+        request: EMPTY,
+        envelope: FULL,
+        way: Way::Any,
+        list: "0.0 0.3 0.7 0.2 0.3 1.1 1.3 1.7 0.5 0.7 0.0 0.3 0.7 1.6 1.7",
+    },
+    Crossing {
+        n: 2,
+        request: FULL,
+        envelope: FULL,
+        way: Way::Any,
+        list: "0.1 0.3 1.0 1.3 1.7 0.6 0.7 1.4 1.7 1.2 1.3 1.7 1.0 1.3 1.7 0.6 0.7",
+    },
+    Crossing {
+        n: 2,
+        request: EMPTY,
+        envelope: EMPTY,
+        way: Way::Any,
+        list: "0.0 0.3 0.7 0.2 0.3 1.1 1.3 1.7 0.5 0.7 0.0 0.3 0.7 1.6 1.7 0.6 1.4 1.7 1.2 1.3 1.7 \
+         0.4 0.7 0.2 0.3 1.1 1.3 1.7 0.5 0.7 0.0 0.3 0.7 1.4 1.7 1.2 1.3 1.7",
+    },
+    Crossing { n: 3, request: FULL, envelope: EMPTY, way: Way::Any, list: "1.0 1.3 2.1 2.3 2.7 1.5 1.7 0.6 0.7" },
+    Crossing {
+        n: 3,
+        request: EMPTY,
+        envelope: FULL,
+        way: Way::Any,
+        list: "0.0 0.3 0.7 0.2 0.3 1.0 1.3 2.1 2.3 2.7 1.5 1.7 0.5 0.7",
+    },
+    Crossing {
+        n: 3,
+        request: FULL,
+        envelope: FULL,
+        way: Way::Any,
+        list: "0.1 0.3 1.0 1.3 1.7 0.6 0.7 1.4 1.7 1.2 1.3 1.7 2.1 2.3 2.7",
+    },
+    Crossing {
+        n: 3,
+        request: EMPTY,
+        envelope: EMPTY,
+        way: Way::Any,
+        list: "0.0 0.3 0.7 0.2 0.3 1.0 1.3 2.1 2.3 2.7 1.5 1.7 0.5 0.7 0.6 0.7 1.4 1.7 2.4 2.7 2.2 \
+         2.3 2.7",
+    },
+    Crossing {
+        n: 2,
+        request: FULL,
+        envelope: EMPTY,
+        way: Way::Leaves,
+        list: "0.1 0.3 1.0 1.3 1.7 0.6 0.7 1.4 1.7 1.2 1.3 1.7 1.0 1.3 1.7 0.6 0.7 0.4 0.7 0.2 0.3 \
+         1.5 1.7 0.7",
+    },
+    Crossing { n: 2, request: FULL, envelope: EMPTY, way: Way::Asks, list: "0.1 1.0 1.3 1.7 0.6 0.7 0.3 0.7 1.5 1.7" },
+    Crossing {
+        n: 2,
+        request: EMPTY,
+        envelope: FULL,
+        way: Way::Leaves,
+        list: "0.1 0.3 1.0 1.3 1.7 0.6 0.7 1.4 1.7 1.2 1.3 1.7 1.0 1.3 1.7 0.6 0.7 0.4 0.7 0.2 0.3 \
+         0.7 1.4 1.5 1.7 1.2 1.3 1.7",
+    },
+    Crossing {
+        n: 2,
+        request: EMPTY,
+        envelope: FULL,
+        way: Way::Asks,
+        list: "0.0 0.3 0.7 0.2 0.3 1.1 1.3 1.7 0.5 0.7 0.0 0.3 0.7 1.6 1.7",
+    },
+    Crossing {
+        n: 2,
+        request: FULL,
+        envelope: FULL,
+        way: Way::Leaves,
+        list: "0.1 1.0 1.3 1.7 0.6 0.7 0.3 0.7 1.5 1.7 0.5 1.4 1.7 1.2 1.3 1.7 0.4 0.7 0.2 0.3 0.7 \
+         0.0 0.3 0.7 0.2 0.3 1.1 1.3 1.7 0.7",
+    },
+    Crossing {
+        n: 2,
+        request: FULL,
+        envelope: FULL,
+        way: Way::Asks,
+        list: "0.1 0.3 1.0 1.3 1.7 0.6 0.7 1.4 1.7 1.2 1.3 1.7 1.0 1.3 1.7 0.6 0.7",
+    },
+    Crossing {
+        n: 2,
+        request: EMPTY,
+        envelope: EMPTY,
+        way: Way::Leaves,
+        list: "0.0 0.3 0.7 0.2 0.3 1.1 1.3 1.7 0.5 0.7 0.0 0.3 0.7 1.6 1.7 0.6 1.4 1.7 1.2 1.3 1.7 \
+         0.4 0.7 0.2 0.3 1.1 1.3 1.7 0.5 0.7 0.0 0.3 0.7 1.4 1.7 1.2 1.3 1.7",
+    },
+    Crossing {
+        n: 2,
+        request: EMPTY,
+        envelope: EMPTY,
+        way: Way::Asks,
+        list: "0.0 0.3 0.7 0.2 0.3 1.1 1.3 1.7 0.5 0.7 0.0 0.3 0.7 1.6 1.7 0.6 1.4 1.7 1.2 1.3 1.7 \
+         0.4 0.7 0.2 0.3 1.1 1.3 1.7 0.5 0.7 0.0 0.3 1.4 1.7 1.2 1.3 1.7 0.7",
+    },
+    Crossing { n: 3, request: FULL, envelope: EMPTY, way: Way::Leaves, list: "1.0 1.3 2.1 2.3 2.7 1.5 1.7 0.6 0.7" },
+    Crossing { n: 3, request: FULL, envelope: EMPTY, way: Way::Asks, list: "1.0 1.3 1.7 0.6 0.7 2.1 2.3 2.7 1.5 1.7" },
+    Crossing {
+        n: 3,
+        request: EMPTY,
+        envelope: FULL,
+        way: Way::Leaves,
+        list: "0.0 0.3 0.7 0.2 0.3 1.0 1.3 2.1 2.3 2.7 1.5 1.7 0.5 0.7",
+    },
+    Crossing {
+        n: 3,
+        request: EMPTY,
+        envelope: FULL,
+        way: Way::Asks,
+        list: "0.0 0.3 0.7 0.2 0.3 1.0 2.1 2.3 2.7 1.5 1.7 0.5 0.7 1.3 1.7",
+    },
+    Crossing {
+        n: 3,
+        request: FULL,
+        envelope: FULL,
+        way: Way::Leaves,
+        list: "0.1 0.3 1.0 1.3 1.7 0.6 0.7 1.4 1.7 1.2 1.3 2.1 2.3 2.7 1.7",
+    },
+    Crossing {
+        n: 3,
+        request: FULL,
+        envelope: FULL,
+        way: Way::Asks,
+        list: "0.1 0.3 1.0 1.3 1.7 0.6 0.7 1.4 1.7 1.2 1.3 1.7 2.1 2.3 2.7",
+    },
+    Crossing {
+        n: 3,
+        request: EMPTY,
+        envelope: EMPTY,
+        way: Way::Leaves,
+        list: "0.0 0.3 0.7 0.2 0.3 1.0 1.3 2.1 2.3 2.7 1.5 1.7 0.5 0.7 0.6 0.7 1.4 1.7 2.4 2.7 2.2 \
+         2.3 2.7",
+    },
+    Crossing {
+        n: 3,
+        request: EMPTY,
+        envelope: EMPTY,
+        way: Way::Asks,
+        list: "0.0 0.3 0.7 0.2 0.3 1.0 1.3 2.1 2.3 2.7 1.5 1.7 0.5 0.7 0.6 1.4 1.7 2.4 2.7 2.2 2.3 \
+         2.7 0.7",
+    },
+    Crossing {
+        n: 2,
+        request: EMPTY,
+        envelope: EMPTY,
+        way: Way::Old,
+        list: "0.1 0.3 1.0 1.3 1.7 0.6 0.7 1.4 1.7 1.2 1.3 1.7 1.0 1.3 1.7 0.6 0.7 0.4 0.7 0.2 0.3 \
+         0.7 0.0 0.3 1.4 1.5 1.7 1.2 1.3 1.7 0.4 0.7 1.1 1.3 1.4 1.7 1.2 1.3 1.7",
+    },
+    Crossing {
+        n: 2,
+        request: EMPTY,
+        envelope: FULL,
+        way: Way::Old,
+        list: "0.1 0.3 1.0 1.3 1.7 0.6 0.7 1.4 1.7 1.2 1.3 1.7 1.0 1.3 1.7 0.6 0.7 0.4 0.7 0.2 0.3 \
+         0.7 1.4 1.5 1.7 1.2 1.3 1.7",
+    },
+    Crossing {
+        n: 2,
+        request: FULL,
+        envelope: EMPTY,
+        way: Way::Old,
+        list: "0.1 1.0 1.3 1.7 0.6 0.7 0.3 0.7 1.5 1.7 1.4 1.7 1.2 1.3 1.7 0.4 0.7 0.2 0.3 1.0 1.3 \
+         1.7 0.6 0.7",
+    },
+    Crossing {
+        n: 2,
+        request: FULL,
+        envelope: FULL,
+        way: Way::Old,
+        list: "0.1 0.3 1.0 1.3 1.7 0.6 0.7 1.4 1.7 1.2 1.3 1.7 1.0 1.3 1.7 0.6 0.7 0.4 0.7 0.2 0.3 \
+         0.7 1.5 1.7 1.4 1.7 1.2 1.3 1.7 0.4 0.7",
+    },
+    Crossing {
+        n: 2,
+        request: EMPTY,
+        envelope: EMPTY,
+        way: Way::OwnWish,
+        list: "0.0 0.3 0.7 0.2 0.3 1.1 1.3 1.7 0.5 0.7 0.0 0.3 0.7 1.6 1.7 0.6 1.4 1.7 1.2 1.3 1.7 \
+         0.4 0.7 0.2 0.3 1.1 1.3 1.7 0.5 0.7 0.0 0.3 0.7 1.4 1.7 1.2 1.3 1.7",
+    },
+    Crossing {
+        n: 2,
+        request: EMPTY,
+        envelope: FULL,
+        way: Way::OwnWish,
+        list: "0.1 0.3 1.0 1.3 1.7 0.6 0.7 1.4 1.7 1.2 1.3 1.7 1.0 1.3 1.7 0.6 0.7 0.4 0.7 0.2 0.3 \
+         0.7 0.0 0.3 1.4 1.5 1.7 1.2 1.3 1.7",
+    },
+    Crossing {
+        n: 2,
+        request: FULL,
+        envelope: EMPTY,
+        way: Way::OwnWish,
+        list: "0.0 0.3 0.7 0.2 0.3 1.1 1.3 1.7 0.5 0.7 0.0 0.3 0.7 1.6 1.7 0.6 1.4 1.7 1.2 1.3 1.7 \
+         0.4 0.7 0.2 0.3 1.1 1.3 1.7 0.5 0.7 0.1 0.3 0.7 1.4 1.7 1.2 1.3 1.7",
+    },
+    Crossing {
+        n: 2,
+        request: FULL,
+        envelope: FULL,
+        way: Way::OwnWish,
+        list: "0.1 0.3 1.0 1.3 1.7 0.6 0.7 1.4 1.7 1.2 1.3 1.7 1.0 1.3 1.7 0.6 0.7",
+    },
+    Crossing {
+        n: 2,
+        request: EMPTY,
+        envelope: EMPTY,
+        way: Way::NotOwnWish,
+        list: "0.0 0.3 0.7 0.2 0.3 1.1 1.3 1.7 0.5 0.7 0.0 0.3 0.7 1.6 1.7 0.6 1.4 1.7 1.2 1.3 1.7 \
+         0.4 0.7 0.2 0.3 1.1 1.3 1.7 0.5 0.7 1.4 1.7 1.2 1.3 1.7 1.0 1.3 1.7 0.6 0.7",
+    },
+    Crossing {
+        n: 2,
+        request: EMPTY,
+        envelope: FULL,
+        way: Way::NotOwnWish,
+        list: "0.0 0.3 0.7 0.2 0.3 1.1 1.3 1.7 0.5 0.7 0.0 0.3 0.7 1.6 1.7",
+    },
+    Crossing {
+        n: 2,
+        request: FULL,
+        envelope: EMPTY,
+        way: Way::NotOwnWish,
+        list: "0.1 1.0 1.3 1.7 0.6 0.7 0.3 0.7 1.5 1.7",
+    },
+    Crossing {
+        n: 2,
+        request: FULL,
+        envelope: FULL,
+        way: Way::NotOwnWish,
+        list: "0.1 0.3 1.0 1.3 1.7 0.6 0.7 1.4 1.7 1.2 1.3 1.7 1.0 1.3 1.7 0.6 0.7 0.4 0.7 0.2 0.3 \
+         0.7 1.5 1.7 0.5 0.7 1.4 1.7 1.2 1.3 1.7",
+    },
+    Crossing {
+        n: 2,
+        request: FULL,
+        envelope: EMPTY,
+        way: Way::Both,
+        list: "0.0 0.3 0.7 0.2 0.3 1.1 1.3 1.7 0.5 0.7 0.0 0.3 0.7 1.6 1.7 0.6 1.4 1.7 1.2 1.3 1.7 \
+         1.1 1.3 1.7 0.5 0.7 0.4 0.7 0.2 0.3 0.7 0.0 0.3 0.7 1.4 1.7 1.2 1.3 1.7",
+    },
+    Crossing {
+        n: 2,
+        request: FULL,
+        envelope: FULL,
+        way: Way::Both,
+        list: "0.1 0.3 1.0 1.3 1.7 0.6 0.7 1.4 1.7 1.2 1.3 1.7 1.0 1.3 1.7 0.6 0.7",
+    },
+    Crossing {
+        n: 3,
+        request: EMPTY,
+        envelope: EMPTY,
+        way: Way::Old,
+        list: "0.0 0.3 0.7 0.2 0.3 1.0 1.3 2.1 2.3 2.7 1.5 1.7 0.5 0.7 1.4 1.7 2.4 2.7 2.2 2.3 2.7 \
+         0.4 0.7",
+    },
+    Crossing {
+        n: 3,
+        request: EMPTY,
+        envelope: FULL,
+        way: Way::Old,
+        list: "0.0 0.3 0.7 0.2 0.3 1.1 1.3 1.7 0.5 0.7 0.0 0.3 0.7 2.1 2.3 2.6 2.7 1.6 1.7 1.4 1.7 \
+         1.2 1.3 1.7 2.4 2.7 0.4 0.7 0.2 0.3 0.7",
+    },
+    Crossing {
+        n: 3,
+        request: FULL,
+        envelope: EMPTY,
+        way: Way::Old,
+        list: "0.1 1.0 1.3 1.7 0.6 0.7 0.3 0.7 2.0 2.3 2.5 2.7 1.5 1.7 1.4 1.7 1.2 1.3 1.7 2.4 2.7 \
+         0.4 0.7 0.2 0.3 0.7",
+    },
+    Crossing {
+        n: 3,
+        request: FULL,
+        envelope: FULL,
+        way: Way::Old,
+        list: "1.1 1.3 2.0 2.3 2.7 1.6 1.7 0.6 0.7 1.4 1.7 2.4 2.7 2.2 2.3 2.7 0.4 0.7",
+    },
+    Crossing {
+        n: 3,
+        request: EMPTY,
+        envelope: EMPTY,
+        way: Way::OwnWish,
+        list: "0.0 0.3 0.7 0.2 0.3 1.0 1.3 2.1 2.3 2.7 1.5 1.7 0.5 0.7 1.4 1.7 2.4 2.7 2.2 2.3 2.7 \
+         0.4 0.7",
+    },
+    Crossing {
+        n: 3,
+        request: EMPTY,
+        envelope: FULL,
+        way: Way::OwnWish,
+        list: "0.0 0.3 0.7 0.2 0.3 1.0 1.3 2.1 2.3 2.7 1.5 1.7 0.5 0.7",
+    },
+    Crossing { n: 3, request: FULL, envelope: EMPTY, way: Way::OwnWish, list: "1.1 1.3 2.0 2.3 2.7 1.6 1.7 0.6 0.7" },
+    Crossing {
+        n: 3,
+        request: FULL,
+        envelope: FULL,
+        way: Way::OwnWish,
+        list: "0.1 0.3 1.0 1.3 1.7 0.6 0.7 1.4 1.7 1.2 1.3 1.7 2.1 2.3 2.7",
+    },
+    Crossing {
+        n: 3,
+        request: EMPTY,
+        envelope: EMPTY,
+        way: Way::NotOwnWish,
+        list: "0.0 0.3 0.7 0.2 0.3 1.0 1.3 2.1 2.3 2.7 1.5 1.7 0.5 0.7 0.6 0.7 1.4 1.7 2.4 2.7 2.2 \
+         2.3 2.7",
+    },
+    Crossing {
+        n: 3,
+        request: EMPTY,
+        envelope: FULL,
+        way: Way::NotOwnWish,
+        list: "0.0 0.3 0.7 0.2 0.3 1.1 1.3 2.0 2.3 2.7 1.6 1.7 0.5 0.7",
+    },
+    Crossing {
+        n: 3,
+        request: FULL,
+        envelope: EMPTY,
+        way: Way::NotOwnWish,
+        list: "1.0 1.3 2.1 2.3 2.7 1.5 1.7 0.6 0.7",
+    },
+    Crossing {
+        n: 3,
+        request: FULL,
+        envelope: FULL,
+        way: Way::NotOwnWish,
+        list: "1.1 1.3 2.0 2.3 2.7 1.6 1.7 0.6 0.7 0.5 0.7 1.4 1.7 2.4 2.7 2.2 2.3 2.7",
+    },
+    Crossing {
+        n: 3,
+        request: FULL,
+        envelope: EMPTY,
+        way: Way::Both,
+        list: "0.0 0.3 0.7 0.2 0.3 1.0 1.3 2.1 2.3 2.7 1.5 1.7 0.5 0.7 0.1 0.3 0.6 0.7 1.4 1.7 2.4 \
+         2.7 2.2 2.3 2.7",
+    },
+    Crossing {
+        n: 3,
+        request: FULL,
+        envelope: FULL,
+        way: Way::Both,
+        list: "0.1 0.3 1.0 1.3 1.7 0.6 0.7 1.4 1.7 1.2 1.3 1.7 1.0 1.3 1.7 0.6 0.7 2.4 2.7",
+    },
+];

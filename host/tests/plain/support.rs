@@ -1,0 +1,91 @@
+//! Small helpers of the tests: event lists as document 01 writes them, and calls with their
+//! answers.
+
+use crate::{guide, plain};
+
+/// The answer of a call: its number and the words of its result.
+#[derive(Debug, PartialEq)]
+pub struct Answer {
+    pub number: u64,
+    pub words: [u64; 10],
+}
+
+/// Makes a call with a result slice of 80 bytes that starts as nonsense.
+pub fn answer(call: impl FnOnce(&mut [u8]) -> u64) -> Answer {
+    let mut result = [0xA5; 80];
+    let number = call(&mut result);
+    let mut words = [0; 10];
+    for (word, bytes) in words.iter_mut().zip(result.chunks_exact(8)) {
+        *word = u64::from_le_bytes(bytes.try_into().unwrap());
+    }
+    Answer { number, words }
+}
+
+/// The answer of a call that is done: 0, the words given, then zeros.
+pub fn done(words: &[u64]) -> Answer {
+    let mut all = [0; 10];
+    all[..words.len()].copy_from_slice(words);
+    Answer { number: 0, words: all }
+}
+
+/// The answer of a call that is refused.
+pub fn refused(number: u64, place: u64) -> Answer {
+    Answer { number, ..done(&[place]) }
+}
+
+/// The events of a list of `process.code`, parted by commas; a code 0 gets 7 as its message.
+pub fn events(list: &str) -> Vec<[u8; 8]> {
+    list.split(',').map(|item| single(item.trim())).collect()
+}
+
+fn single(item: &str) -> [u8; 8] {
+    let (process, code) = item.split_once('.').unwrap();
+    let code = code.parse().unwrap();
+    guide::event(process.parse().unwrap(), code, if code == 0 { 7 } else { 0 })
+}
+
+/// The tape of some events.
+pub fn tape(n: u64, events: &[[u8; 8]]) -> Vec<u8> {
+    guide::tape(n, events.as_flattened())
+}
+
+/// Step, on an image.
+pub fn step(image: &mut [u8], event: &[u8]) -> Answer {
+    answer(|result| plain::ring_step::<0>(image, event, result))
+}
+
+/// Run, on an image, with a ledger of a given length: the answer and the ledger.
+pub fn run(image: &mut [u8], tape: &[u8], ledger: usize) -> (Answer, Vec<u8>) {
+    let mut ledger = vec![0xA5; ledger];
+    let answer = answer(|result| plain::ring_run::<0>(image, tape, &mut ledger, result));
+    (answer, ledger)
+}
+
+/// Stopped: the answer must be yes or no.
+pub fn stopped(image: &[u8]) -> bool {
+    let answer = answer(|result| plain::ring_stopped::<0>(image, result));
+    assert!(answer == done(&[0]) || answer == done(&[1]), "{answer:?}");
+    answer.words[0] == 1
+}
+
+/// The image after some events, by steps none of which is refused; it counts the idle ones too.
+pub fn after(n: u64, home: u64, events: &[[u8; 8]]) -> (Vec<u8>, usize) {
+    let mut image = guide::fresh(n, home);
+    let mut idle = 0;
+    for event in events {
+        let answer = step(&mut image, event);
+        assert_eq!(answer.number, 0);
+        idle += usize::from(answer.words[0] == 0);
+    }
+    (image, idle)
+}
+
+/// Gives a block the check that it should have: the sums as document 01 writes them.
+pub fn give_check(block: &mut [u8]) {
+    let (mut a, mut b) = (0, 0);
+    for word in block[..4].chunks_exact(2).chain(block[8..512].chunks_exact(2)) {
+        a = (a + u32::from(word[0]) + 256 * u32::from(word[1])) % 65_535;
+        b = (b + a) % 65_535;
+    }
+    block[4..8].copy_from_slice(&(a + 65_536 * b).to_le_bytes());
+}
