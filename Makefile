@@ -1,18 +1,34 @@
 # make test: the gate. The layout, then every listed crate proved from nothing with its must-fail edits and programs,
-# then rt's own closing line as the very last line, which is printed only if all of that passed.
+# then the archives of the host library, made of what was proved, and the Rust package's tests over them, then rt ci's
+# own closing line as the very last line, which is printed only if all of that passed.
 #
-# rt's output is kept in a file outside target/, which rt ci removes, so that its exit status is not lost in a pipe.
+# make bench: the proved library and plain Rust, timed side by side on this machine (docs/PERFORMANCE.md).
+#
+# rt ci's output is kept in a file outside target/, which rt ci removes, so that its exit status is not lost in a pipe.
+# RING_HOST_DIR would have the package link an archive from elsewhere, so it is unset. A test that is ignored because an
+# archive isn't there fails here.
 
 SHELL := /bin/sh
-.PHONY: test
+.PHONY: test bench
 
 test:
 	@set -eu; \
+	unset RING_HOST_DIR; \
 	log=$$(mktemp); \
 	trap 'rm -f "$$log"' EXIT; \
 	rt fmt --check; \
-	rt ci >"$$log" 2>&1 || { status=$$?; cat "$$log"; exit "$$status"; }; \
+	rt ci >"$$log" 2>&1 || { status=$$?; cat "$$log"; echo "rt ci: exit status $$status"; exit "$$status"; }; \
 	sed '$$d' "$$log"; \
 	closing=$$(tail -n 1 "$$log"); \
 	echo "$$closing" | grep -Eq '^[1-9][0-9]* passed, 0 failed$$' || { echo "$$closing"; exit 1; }; \
+	rt staticlib ring_host; \
+	rt staticlib tape_host; \
+	(cd host && cargo test --release --offline --quiet -- --include-ignored); \
 	echo "$$closing"
+
+bench:
+	@set -eu; \
+	unset RING_HOST_DIR; \
+	rt staticlib ring_host; \
+	cd host; \
+	cargo bench --offline
