@@ -5,3 +5,4 @@ pub mod Blocks
 pub mod Lengths
 pub mod Apart
 pub mod Ways
+pub mod Together

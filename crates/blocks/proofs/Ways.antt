@@ -1,5 +1,5 @@
 -- Each way through the tape's test, with what the functions read as variables. Assumes nothing.
-use Prim.Native.Nat.{ℕ, _+_, _-_, _*_, _/_, _%_, _≤_}
+use Prim.Native.Nat.{ℕ, _+_, _-_, _*_, _/_, _%_, _≤_, _<_}
 use mathlib.Core.Path.{_≡_, refl, sym, ap, _∙_}
 use mathlib.Core.Bool.{Bool, true, false, _&&_, _||_}
 use mathlib.Core.List.{List}
@@ -13,13 +13,13 @@ use Rattle.machine.specs.declared.Verdict.{Verdict}
 use Rattle.machine.specs.declared.Verdict.the-variants as verdict
 use Rattle.machine.specs.Bytes.{zeros}
 use Rattle.machine.specs.Tape.{check, covered, slotAt, blockNumber, blockCount, blockCheck}
-use Rattle.machine.specs.Refusals.{unless, orElse, first, lengthVerdict, mostBlocks, mostEvents, blockFits}
+use Rattle.machine.specs.Refusals.{unless, orElse, first, eventFits, lengthVerdict, mostBlocks, mostEvents, blockFits}
 use Rattle.machine.specs.Refusals.{checkVerdict, numberVerdict, usedVerdict, unusedVerdict}
 use Rattle.machine.specs.Refusals.{blockVerdict, tapeVerdict, listVerdict}
 use Rattle.machine.proofs.Refusals.{unless-fine, second-fine}
 use Rattle.blocks.specs.declared.Counted.the-variants.{Done, Refused}
 use Rattle.blocks.specs.Counted.{countedAs, headVerdict, eventsOn}
-use Rattle.blocks.proofs.First.{first-start}
+use Rattle.blocks.proofs.First.{first-from}
 use Rattle.blocks.proofs.Blocks.{fits-most, eventTest, slotTest, tape-fine}
 use Rattle.blocks.proofs.Lengths.{length-list}
 
@@ -116,11 +116,14 @@ module _ (codes n : ℕ) (s : List ℕ) (b : ℕ) where
       unfolding unusedVerdict
       slots-fine e = by-slots ∙ rw (used, ← counts, sym is ∙ e)
 
-  -- before the first slot
-  pub slots-start : {count : ℕ} → count ≡ blockCount s b
-      → first (slotTest codes n s b) 0 (count - 0) ≡ usedVerdict codes n s b
+  -- before the first slot that is not known to fit
+  pub slots-from : {count known : ℕ} → count ≡ blockCount s b → known ≤ count
+      → ((j : ℕ) → j < known → eventFits codes n s (slotAt b j) ≡ true)
+      → first (slotTest codes n s b) known (count - known) ≡ usedVerdict codes n s b
   unfolding usedVerdict
-  slots-start e = first-start (slotTest codes n s b) _ ∙ ap (first (slotTest codes n s b) 0) e
+  slots-from {count} {known} e some fit =
+      let row = slotTest codes n s b in
+      first-from row known count some (λ j h. rw (fit j h)) ∙ ap (first row 0) e
 
 -- ---- a tape and a list: the length first, then a row of tests
 
@@ -128,8 +131,10 @@ module _ (l : Verdict) (f : ℕ → Verdict) (k : ℕ) {v : Verdict} (is : v ≡
   long-refused : {r : Refusal} → v ≡ verdict.Refused r → v ≡ orElse l (first f 0 k)
   long-refused e = e ∙ rw (sym is ∙ e)
 
-  row-start : v ≡ verdict.Fine → first f 0 (k - 0) ≡ orElse l (first f 0 k)
-  row-start e = first-start f k ∙ rw (sym is ∙ e)
+  -- where the tests before i are known to be fine
+  row-from : (i : ℕ) → i ≤ k → ((j : ℕ) → j < i → f j ≡ verdict.Fine) → v ≡ verdict.Fine
+      → first f i (k - i) ≡ orElse l (first f 0 k)
+  row-from i some fine e = first-from f i k some fine ∙ rw (sym is ∙ e)
 
 module _ (codes n : ℕ) (s : List ℕ) {v : Verdict} (is : v ≡ lengthVerdict 512 1 mostBlocks s) where
   pub tape-length-refused : {r : Refusal} → v ≡ verdict.Refused r → v ≡ tapeVerdict codes n s
@@ -139,17 +144,22 @@ module _ (codes n : ℕ) (s : List ℕ) {v : Verdict} (is : v ≡ lengthVerdict 
   -- before the first block
   pub blocks-start : v ≡ verdict.Fine → first (blockVerdict codes n s) 0 (length s / 512 - 0) ≡ tapeVerdict codes n s
   unfolding tapeVerdict
-  blocks-start e = row-start _ (blockVerdict codes n s) (length s / 512) is e
+  blocks-start e =
+      row-from _ (blockVerdict codes n s) (length s / 512) is 0 (omega arith) (λ j h. absurd (omega arith)) e
 
 module _ (codes n : ℕ) (s : List ℕ) {v : Verdict} (is : v ≡ lengthVerdict 8 1 mostEvents s) where
   pub list-length-refused : {r : Refusal} → v ≡ verdict.Refused r → v ≡ listVerdict codes n s
   unfolding listVerdict
   list-length-refused e = long-refused _ _ _ is e
 
-  -- before the first event
-  pub events-start : v ≡ verdict.Fine → first (eventTest codes n s) 0 (length s / 8 - 0) ≡ listVerdict codes n s
+  -- before the first event that is not known to fit
+  pub events-from : (known : ℕ) → known ≤ length s / 8
+      → ((k : ℕ) → k < known → eventFits codes n s (0 + 8 * k) ≡ true) → v ≡ verdict.Fine
+      → first (eventTest codes n s) known (length s / 8 - known) ≡ listVerdict codes n s
   unfolding listVerdict
-  events-start e = row-start _ (eventTest codes n s) (length s / 8) is e
+  events-from known some fit e =
+      let at : (k : ℕ) → 8 * k ≡ 0 + 8 * k = λ k. omega arith in
+      row-from _ (eventTest codes n s) (length s / 8) is known some (λ k h. rw (at k, fit k h)) e
 
 -- ---- how many events a tape has
 

@@ -4,14 +4,17 @@ use event::Event;
 use machine::Refusal;
 use machine::Verdict;
 use record::byte::number_at;
+use record::byte::wide;
 use seal::check_of;
 use seal::word_at;
 use span::is_clear;
 ghost use mathlib.Core.Path.{_≡_};
-ghost use Prim.Native.Nat.{_+_, _*_, _≤_, _<_};
+ghost use mathlib.Core.Bool.{true};
+ghost use Prim.Native.Nat.{ℕ, _+_, _*_, _≤_, _<_};
 ghost use lib.ListN.{length};
 ghost use Rattle.machine.specs.Tape.{blockCount};
 ghost use Rattle.machine.specs.Refusals as rule;
+ghost use Rattle.machine.specs.Refusals.{eventFits};
 ghost use Rattle.blocks.specs.Counted.{countedAs, headVerdict, eventsOn};
 
 // How many events a block or a tape has, or its refusal.
@@ -56,8 +59,34 @@ fn head(tape: &[u8], b: usize) -> Counted
     }
 }
 
-// A tape's verdict, for n processes and so many codes. The first event that is refused leaves both loops. A head is
-// counted or refused, so the innermost else is never reached.
+// How many of so many events from `at` on are sure to fit: all, or none. They are tested all together: what is or-ed in
+// `any` stays below `limit` only if each process is below n, each code is one and the two bytes are zero, and `mixed`
+// stays 0 only if no message stands beside a code other than 0.
+fn fitting(bytes: &[u8], at: usize, count: usize, n: usize, codes: u8) -> usize
+    requires { ⌜ at + 8 * count ≤ length (now bytes) ⌝ }
+    ensures { λ r. ⌜ (r ≤ count) × ((k : ℕ) → k < r → eventFits codes n (now (bytes .entry)) (at + 8 * k) ≡ true) ⌝ }
+{
+    let limit = 256 * wide(codes);
+    let gap = if n < limit { limit - n } else { 0 };
+    let mut any: usize = 0;
+    let mut mixed: usize = 0;
+    for k in 0..count {
+        let front = number_at(bytes, at + 8 * k) as usize;
+        let message = number_at(bytes, at + 8 * k + 4) as usize;
+        let process = front % 256;
+        let coded = front - process;
+        any = any | coded | (process + gap);
+        mixed = mixed | coded * message;
+    }
+    if (any < limit) & (mixed == 0) {
+        count
+    } else {
+        0
+    }
+}
+
+// A tape's verdict, for n processes and so many codes. The slots that are not sure to fit are searched for the first
+// event that is refused, which leaves both loops. A head is counted or refused, so the innermost else is never reached.
 fn verdict_of(tape: &[u8], n: usize, codes: u8) -> Verdict
     ensures { λ r. ⌜ r ≡ rule.tapeVerdict codes n (now (tape .entry)) ⌝ }
 {
@@ -75,7 +104,7 @@ fn verdict_of(tape: &[u8], n: usize, codes: u8) -> Verdict
             break 'blocks;
         };
         let slots = 512 * b + 8;
-        for j in 0..count {
+        for j in fitting(tape, slots, count, n, codes)..count {
             if !Event::fits(tape, slots + 8 * j, n, codes) {
                 verdict = Verdict::Refused(Refusal::Event(63 * b + j));
                 break 'blocks;
@@ -97,7 +126,8 @@ pub fn list_verdict(list: &[u8], n: usize, codes: u8) -> Verdict
     let Verdict::Fine = verdict else {
         return verdict;
     };
-    for k in 0..list.len() / 8 {
+    let events = list.len() / 8;
+    for k in fitting(list, 0, events, n, codes)..events {
         if !Event::fits(list, 8 * k, n, codes) {
             return Verdict::Refused(Refusal::Event(k));
         }

@@ -10,7 +10,9 @@ ghost use lib.ListN.{length};
 ghost use Rattle.machine.specs.Bytes.{bit as digitOf, splice};
 ghost use Rattle.machine.specs.Run.{outcomeNumber, outcomeMessage, ledgerEntry, counted};
 ghost use Rattle.ledger.specs.Bounds.{NoneAbove};
-ghost use Rattle.ledger.specs.Record.{recordOf};
+ghost use Rattle.machine.specs.declared.Outcome.the-variants.{Moved};
+ghost use Rattle.ledger.specs.Idle.{OneIdle};
+ghost use Rattle.ledger.specs.Record.{recordOf, enteredIn};
 
 // Internal: an outcome's number, 0 to 5; of fill, take, sent and got it is the ledger's code.
 pub fn outcome_number(outcome: Outcome) -> u8
@@ -50,15 +52,18 @@ pub fn put_record(ledger: &mut [u8], at: usize, number: u32, process: u8, code: 
     put_number(ledger, at + 8, message);
 }
 
-// Internal: what an event with this number adds to the ledger, written from `at` on: a record of 12 bytes, or nothing.
+// Internal: what an event with this number adds to the ledger, written from `at` on: a record of 12 bytes, or nothing,
+// and nothing where the ledger has no room for it.
 pub fn enter(ledger: &mut [u8], at: usize, number: u32, event: Event, outcome: Outcome)
-    requires { ⌜ (event .process < 256)
-        × (at + length (ledgerEntry number (event .process) outcome) ≤ length (now ledger)) ⌝ }
+    requires { ⌜ (event .process < 256) × (at ≤ 4294967295) ⌝ }
     ensures { λ _. ⌜ now (ledger .exit)
-        ≡ splice (now (ledger .entry)) at (ledgerEntry number (event .process) outcome) ⌝ }
+        ≡ enteredIn (now (ledger .entry)) at (ledgerEntry number (event .process) outcome) ⌝ }
 {
     let code = outcome_number(outcome);
     if code < 2 {
+        return;
+    }
+    if ledger.len() < at + 12 {
         return;
     }
     let message = outcome_message(outcome);
@@ -72,7 +77,36 @@ fn bit(b: bool) -> u64
     if b { 1 } else { 0 }
 }
 
-// Internal: the counts with one event more.
+// Internal: the counts with one idle event more, whatever its code.
+pub fn count_idle(counts: Counts) -> Counts
+    requires { ⌜ NoneAbove 4294967295 counts ⌝ }
+    ensures { λ r. ⌜ OneIdle counts r ⌝ }
+{
+    let mut more = counts;
+    more.idle = counts.idle + 1;
+    more
+}
+
+// Internal: the counts with one event more that moved something and has no record.
+pub fn count_moved(counts: Counts, code: u8) -> Counts
+    requires { ⌜ NoneAbove 4294967295 counts ⌝ }
+    ensures { λ r. ⌜ r ≡ counted code Moved counts ⌝ }
+{
+    let mut more = counts;
+    match code {
+        0 => {
+            more.puts = counts.puts + 1;
+            more
+        }
+        1 => {
+            more.gets = counts.gets + 1;
+            more
+        }
+        _ => more,
+    }
+}
+
+// Internal: the counts with any event more, without a branch: an outcome with a record can't be foreseen.
 pub fn count(counts: Counts, code: u8, outcome: Outcome) -> Counts
     requires { ⌜ NoneAbove 4294967295 counts ⌝ }
     ensures { λ r. ⌜ r ≡ counted code outcome counts ⌝ }

@@ -1,7 +1,7 @@
 -- Laws of bytes, wider numbers and splices. Assumes nothing.
 use Prim.Native.Nat.{ℕ, zero, suc, _+_, _-_, _*_, _/_, _%_, _^_, _≤_, _<_}
 use mathlib.Core.Path.{_≡_, refl, sym, ap, _∙_}
-use mathlib.Core.Bool.{Bool, true, false, _&&_, and-assoc, and-true}
+use mathlib.Core.Bool.{Bool, true, false, _&&_, and-true}
 use mathlib.Core.List.{List, [], _∷_, _++_, append-assoc}
 use mathlib.Core.Logic.{_⊎_, inl, inr}
 use native.Mathlib.Omega.{arith}
@@ -77,14 +77,26 @@ number-4 s at =
     )
     (omega arith)
 
+-- four bytes and the next four
+pub number-8 : (s : List ℕ) (at : ℕ) → number s at 8 ≡ number s at 4 + 4294967296 * number s (at + 4) 4
+number-8 s at =
+    let two : at + 1 + 1 ≡ at + 2 = omega arith in
+    let three : at + 2 + 1 ≡ at + 3 = omega arith in
+    let four : at + 3 + 1 ≡ at + 4 = omega arith in
+    rw (
+      number-more s at 7,
+      number-more s (at + 1) 6,
+      two,
+      number-more s (at + 2) 5,
+      three,
+      number-more s (at + 3) 4,
+      four,
+      number-4 s at,
+    )
+    (omega arith)
+
 pub zeros-2 : (s : List ℕ) (at : ℕ) → zeros s at 2 ≡ eqb (getD s at 0) 0 && eqb (getD s (at + 1) 0) 0
 zeros-2 s at = rw (zeros-more s at 1, zeros-more s (at + 1) 0, zeros-0 s (at + 1 + 1)) (simp and-true)
-
-pub zeros-3 : (s : List ℕ) (at : ℕ)
-    → zeros s at 3 ≡ eqb (getD s at 0) 0 && eqb (getD s (at + 1) 0) 0 && eqb (getD s (at + 2) 0) 0
-zeros-3 s at =
-    let two : at + 1 + 1 ≡ at + 2 = omega arith in
-    rw (zeros-more s at 2, zeros-2 s (at + 1), two) (simp and-assoc)
 
 -- ---- a number written and read back
 

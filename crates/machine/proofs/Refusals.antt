@@ -122,13 +122,30 @@ fits-process codes n s at fits =
     ltb-true (getD s at 0) n
     (and-first process code (and-first (process && code) spare (and-first (process && code && spare) _ fits)))
 
--- and so is an accepted one
-pub event-below : (n : ℕ) (s : List ℕ) → eventVerdict codes n s ≡ Fine → eventIn s 0 .process < n
-unfolding eventVerdict eventIn
-event-below n s e =
+-- and has one of the codes
+pub fits-code : (codes n : ℕ) (s : List ℕ) (at : ℕ) → eventFits codes n s at ≡ true → getD s (at + 1) 0 < codes
+unfolding eventFits
+fits-code codes n s at fits =
+    let process = ltb (getD s at 0) n in
+    let code = ltb (getD s (at + 1) 0) codes in
+    let spare = zeros s (at + 2) 2 in
+    ltb-true (getD s (at + 1) 0) codes
+    (and-second process code (and-first (process && code) spare (and-first (process && code && spare) _ fits)))
+
+-- the same of an accepted one
+accepted-fits : (n : ℕ) (s : List ℕ) → eventVerdict codes n s ≡ Fine → eventFits codes n s 0 ≡ true
+unfolding eventVerdict
+accepted-fits n s e =
     let fits = eventFits codes n s 0 in
-    fits-process codes n s 0
-    (and-second (eqb (length s) 8) fits (unless-fine (eqb (length s) 8 && fits) (refusal.Event 0) e))
+    and-second (eqb (length s) 8) fits (unless-fine (eqb (length s) 8 && fits) (refusal.Event 0) e)
+
+pub event-code : (n : ℕ) (s : List ℕ) → eventVerdict codes n s ≡ Fine → eventIn s 0 .code < codes
+unfolding eventIn
+event-code n s e = fits-code codes n s 0 (accepted-fits n s e)
+
+pub event-below : (n : ℕ) (s : List ℕ) → eventVerdict codes n s ≡ Fine → eventIn s 0 .process < n
+unfolding eventIn
+event-below n s e = fits-process codes n s 0 (accepted-fits n s e)
 
 -- ---- each way through the tests of an image
 

@@ -11,14 +11,17 @@ use lib.Dec.{leb}
 use borrow.Author.Tests.{le-leb, lt-leb}
 use Rattle.machine.specs.Image.{State, stateIn}
 use Rattle.machine.specs.Events as rule
-use Rattle.machine.specs.Run.{recorded, countsFrom}
+use Rattle.machine.specs.Run.{recorded, noCounts, countsFrom}
 use Rattle.machine.specs.Answers.{runEvents, runRecords}
 use Rattle.machine.proofs.Bits.{bit-le}
 use Rattle.machine.proofs.Bytes.{lt-or-ge}
 use Rattle.machine.proofs.Tallies.{records-more, length-ledger}
 use Rattle.tape.proofs.Events.{length-events}
 use Rattle.play.specs.Playable.{Playable}
-use Rattle.measure.proofs.Tallied.{recordsFrom}
+
+-- how many records events have from a state on
+abbrev pub recordsFrom : State → List rule.Event → ℕ
+recordsFrom st vs = countsFrom noCounts st vs .records
 
 -- an event has at most one record
 records-few : (vs : List rule.Event) (st : State) → recordsFrom st vs ≤ length vs

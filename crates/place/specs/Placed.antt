@@ -1,5 +1,5 @@
 -- A reaction as a step writes it into an image, record by record; a neighbour's only where there is something to do.
--- That this is the rule's image is proved (step/proofs/Written). Assumes nothing.
+-- That this is the rule's image is proved (place/proofs/Written). Assumes nothing.
 use Prim.Native.Nat.{ℕ}
 use mathlib.Core.Bool.{Bool, true, cond, _||_}
 use mathlib.Core.List.{List}

@@ -66,6 +66,10 @@ module _ {s₀ tape : List ℕ} {total : ℕ} (ready : Playable s₀ tape total)
     pub next-left : left tape k ≡ eventAt tape k ∷ left tape (k + 1)
     next-left = events.events-from codes (sizeIn s₀) tape (ready .tape-fine) k inside
 
+    -- it has one of the codes
+    pub code-below : eventAt tape k .code < 8
+    code-below = events.event-code codes (sizeIn s₀) tape (ready .tape-fine) k inside
+
     module _ (small-tape : Bytes tape) {s : List ℕ} (h : Held s₀ tape s k) where
       pub fits : fitting (sizeIn s) (eventAt tape k) ≡ true
       fits = rw (h .size) (events.event-fits codes (sizeIn s₀) tape (ready .tape-fine) small-tape k inside)

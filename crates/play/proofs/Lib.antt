@@ -2,3 +2,4 @@
 pub mod Held
 pub mod Going
 pub mod Ways
+pub mod Turns

@@ -1,39 +1,57 @@
 // The events of an accepted tape, performed on an accepted image, with their records in the ledger. Document 01, "The
 // run".
 use event::Event;
+use hold::act;
 use ledger::count;
+use ledger::count_idle;
+use ledger::count_moved;
 use ledger::enter;
+use ledger::outcome_number;
 use machine::Counts;
-use step::perform;
+use quick::is_possible;
 ghost use mathlib.Core.Path.{_≡_};
-ghost use Prim.Native.Nat.{_+_, _/_, _%_, _≤_};
-ghost use lib.ListN.{length};
-ghost use Rattle.machine.specs.Bytes.{splice};
+ghost use Prim.Native.Nat.{_*_};
 ghost use Rattle.machine.specs.Image.{stateIn, imageWith};
-ghost use Rattle.machine.specs.Run.{noCounts, countsFrom, after};
-ghost use Rattle.machine.specs.Tape.{eventIn, slotAt};
+ghost use Rattle.machine.specs.Events.{outcome, apply};
+ghost use Rattle.machine.specs.Run.{ledgerEntry, noCounts, counted, countsFrom, after};
 ghost use Rattle.machine.specs.Answers.{runEvents, runRecords};
-ghost use Rattle.event.specs.Parsed.{eventOf};
-ghost use Rattle.play.specs.Playable.{Playable};
+ghost use Rattle.event.specs.Parsed.{ruled};
+ghost use Rattle.ledger.specs.Record.{enteredIn};
+ghost use Rattle.play.specs.Playable.{Playable, Turning, Recorded};
 
-// Internal: event k of a tape, which stands in slot k % 63 of block k / 63: every block has 8 bytes before its slots.
-pub fn event_at(tape: &[u8], k: usize) -> Event
-    requires { ⌜ slotAt (k / 63) (k % 63) + 8 ≤ length (now tape) ⌝ }
-    ensures { λ r. ⌜ r ≡ eventOf (eventIn (now (tape .entry)) (slotAt (k / 63) (k % 63))) ⌝ }
+// One event: performed, entered in the ledger where that has room, and counted. Nothing is done for one that isn't
+// possible.
+fn turn(image: &mut [u8], ledger: &mut [u8], number: u32, event: Event, counts: Counts) -> Counts
+    requires { ⌜ Turning (now image) event counts ⌝ }
+    ensures answer { λ r. ⌜ r ≡ counted (event .code) (outcome (stateIn (now (image .entry))) (ruled event)) counts ⌝ }
+    ensures buffer { λ _. ⌜ now (image .exit)
+        ≡ imageWith (now (image .entry)) (apply (stateIn (now (image .entry))) (ruled event)) ⌝ }
+    ensures records { λ _. ⌜ now (ledger .exit)
+        ≡ enteredIn (now (ledger .entry)) (12 * counts .records)
+        (ledgerEntry number (event .process) (outcome (stateIn (now (image .entry))) (ruled event))) ⌝ }
 {
-    Event::read(tape, 8 * (k + k / 63 + 1))
+    let at = 16 + 8 * event.process;
+    if !is_possible(event.code, image[at], image[at + 1], image[at + 2]) {
+        return count_idle(counts);
+    }
+    let done = act(image, event);
+    if outcome_number(done) == 1 {
+        return count_moved(counts, event.code);
+    }
+    enter(ledger, 12 * counts.records as usize, number, event, done);
+    count(counts, event.code, done)
 }
 
-// Internal: every event of the tape, one after the other. The ledger has room for their records.
+// Internal: every event of the tape, one after the other. The ledger gets their records where it has room for all. The
+// inner loop goes over the events of a block, 63 or what is left, which stand 8 bytes apart; 8 bytes stand before them.
 pub fn play(image: &mut [u8], tape: &[u8], events: usize, ledger: &mut [u8]) -> Counts
-    requires { ⌜ Playable (now image) (now tape) events
-        × (length (runRecords (now image) (now tape)) ≤ length (now ledger)) ⌝ }
+    requires { ⌜ Playable (now image) (now tape) events ⌝ }
     ensures answer { λ r. ⌜ r
         ≡ countsFrom noCounts (stateIn (now (image .entry))) (runEvents (now (tape .entry))) ⌝ }
     ensures buffer { λ _. ⌜ now (image .exit)
         ≡ imageWith (now (image .entry)) (after (stateIn (now (image .entry))) (runEvents (now (tape .entry)))) ⌝ }
-    ensures records { λ _. ⌜ now (ledger .exit)
-        ≡ splice (now (ledger .entry)) 0 (runRecords (now (image .entry)) (now (tape .entry))) ⌝ }
+    ensures records { λ _. ⌜ Recorded (runRecords (now (image .entry)) (now (tape .entry))) (now (ledger .entry))
+        (now (ledger .exit)) ⌝ }
 {
     let mut counts = Counts {
         puts: 0,
@@ -45,12 +63,18 @@ pub fn play(image: &mut [u8], tape: &[u8], events: usize, ledger: &mut [u8]) -> 
         idle: 0,
         records: 0,
     };
-    for k in 0..events {
-        let event = event_at(tape, k);
-        let outcome = perform(image, event);
-        let at = 12 * counts.records as usize;
-        enter(ledger, at, k as u32, event, outcome);
-        counts = count(counts, event.code, outcome);
+    let mut at = 0;
+    let mut k = 0;
+    while k < events {
+        let most = k + 63;
+        let end = if events < most { events } else { most };
+        at += 8;
+        while k < end {
+            let event = Event::read(tape, at);
+            counts = turn(image, ledger, k as u32, event, counts);
+            k += 1;
+            at += 8;
+        }
     }
     counts
 }

@@ -1,7 +1,9 @@
 -- The put's decision by stage: each arm of it, and the stages that are left. Assumes nothing.
-use Prim.Native.Nat.{ℕ, zero, suc, _<_}
+use Prim.Native.Nat.{ℕ, zero, suc, _+_, _<_}
 use mathlib.Core.Path.{_≡_, _∙_}
+use mathlib.Core.Logic.{_⊎_, inl, inr}
 use native.Mathlib.Omega.{arith}
+use lib.Dec.{eqb}
 use borrow.Author.Tests.{ne-eqb}
 use Rattle.machine.specs.declared.Reaction.{Reaction}
 use Rattle.machine.specs.declared.Outcome.the-variants.{Got}
@@ -19,14 +21,6 @@ module _ (r : Reaction) {t : Reaction} {stage : ℕ} where
   unfolding putAt
   at-six e s = e ∙ rw s
 
-  pub at-two : t ≡ wait empty 3 r → stage ≡ 2 → t ≡ putAt stage r
-  unfolding putAt
-  at-two e s = e ∙ rw s
-
-  pub at-seven : t ≡ wait full 8 r → stage ≡ 7 → t ≡ putAt stage r
-  unfolding putAt
-  at-seven e s = e ∙ rw s
-
   pub at-five : {u v : Reaction} → u ≡ clear empty r → v ≡ forward u → t ≡ endPut v → stage ≡ 5 → t ≡ putAt stage r
   unfolding putAt
   at-five first second third s = third ∙ rw (second, first, s)
@@ -34,6 +28,14 @@ module _ (r : Reaction) {t : Reaction} {stage : ℕ} where
   pub at-ten : {u v : Reaction} → u ≡ clear full r → v ≡ forward u → t ≡ ends Got v → stage ≡ 10 → t ≡ putAt stage r
   unfolding putAt
   at-ten first second third s = third ∙ rw (second, first, s)
+
+-- a stage that waits: 2 for an empty envelope, 7 for a full one
+pub at-wait : (r : Reaction) {t : Reaction} (stage : ℕ) → t ≡ wait (eqb stage 7) (stage + 1) r
+    → (stage ≡ 2) ⊎ (stage ≡ 7)
+    → t ≡ putAt stage r
+unfolding putAt
+at-wait r stage e (inl two) = e ∙ rw two
+at-wait r stage e (inr seven) = e ∙ rw seven
 
 -- a stage that is none of those that do something
 pub at-else : (r : Reaction) (stage : ℕ) → (stage ≡ 0 → ⊥) → (stage ≡ 1 → ⊥) → (stage ≡ 2 → ⊥) → (stage ≡ 5 → ⊥)

@@ -93,8 +93,8 @@ fn clear(full: bool, r: Reaction) -> Reaction
     t
 }
 
-// Whether the present status has its marker set or its count above 0.
-fn wanted(e: Envelope) -> bool
+// Internal: whether the present status has its marker set or its count above 0.
+pub fn wanted(e: Envelope) -> bool
     ensures { λ r. ⌜ r ≡ rule.wanted e ⌝ }
 {
     if e.full {
@@ -155,7 +155,7 @@ fn stroll(r: Reaction) -> Reaction
     if r.process.have { forward(r) } else { pass(r) }
 }
 
-// Stages 2 and 7, waiting for the envelope of one status: with it to the stage `next`.
+// Stages 2 and 7, waiting for the envelope of one status: with it to the stage `next`, which is the one after it.
 fn wait(full: bool, next: u8, r: Reaction) -> Reaction
     requires { ⌜ Ready (r .envelope) (r .process) ⌝ }
     ensures { λ t. ⌜ t ≡ rule.wait full next r ⌝ }
@@ -206,8 +206,7 @@ pub fn put_at(r: Reaction) -> Reaction
     let stage = r.process.stage;
     match stage {
         0 | 1 | 6 => stroll(r),
-        2 => wait(false, 3, r),
-        7 => wait(true, 8, r),
+        2 | 7 => wait(stage == 7, stage + 1, r),
         5 => end_put(forward(clear(false, r))),
         10 => ends(Outcome::Got, forward(clear(true, r))),
         3..=4 | 8..=9 => r,

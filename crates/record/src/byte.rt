@@ -19,6 +19,13 @@ pub fn wide32(x: u8) -> u32
     x as u32
 }
 
+// Internal: the same, in 64 bits.
+pub fn wide64(x: u8) -> u64
+    ensures { λ r. ⌜ (r ≡ x) × (r < 256) ⌝ }
+{
+    x as u64
+}
+
 // Internal: a bit as a number.
 pub fn digit(b: bool) -> u8
     ensures { λ r. ⌜ (r ≡ bit b) × (r ≤ 1) ⌝ }
@@ -35,6 +42,21 @@ pub fn number_at(bytes: &[u8], at: usize) -> u32
         + 256 * wide32(bytes[at + 1])
         + 65536 * wide32(bytes[at + 2])
         + 16777216 * wide32(bytes[at + 3])
+}
+
+// Internal: the number of eight bytes, lowest first; written so that they are read at once.
+pub fn eight_at(bytes: &[u8], at: usize) -> u64
+    requires { ⌜ at + 8 ≤ length (now bytes) ⌝ }
+    ensures { λ r. ⌜ r ≡ number (now (bytes .entry)) at 8 ⌝ }
+{
+    wide64(bytes[at])
+        | wide64(bytes[at + 1]) << 8
+        | wide64(bytes[at + 2]) << 16
+        | wide64(bytes[at + 3]) << 24
+        | wide64(bytes[at + 4]) << 32
+        | wide64(bytes[at + 5]) << 40
+        | wide64(bytes[at + 6]) << 48
+        | wide64(bytes[at + 7]) << 56
 }
 
 // Internal: four bytes, written.

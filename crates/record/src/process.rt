@@ -1,14 +1,17 @@
 // A process record in an image: 8 bytes at 16 + 8 * i.
 use super::byte::digit;
 use super::byte::number_at;
-use super::byte::put_four;
 use super::byte::put_number;
+use super::byte::wide32;
 use machine::Pair;
 use machine::Process;
 ghost use mathlib.Core.Path.{_≡_};
 ghost use Prim.Native.Nat.{_+_, _*_, _≤_, _<_};
 ghost use lib.ListN.{length};
+ghost use Rattle.machine.specs.Bytes.{splice};
+ghost use Rattle.machine.specs.Ring.{recordAt};
 ghost use Rattle.machine.specs.Image.{pairBits, flagBits, requestBits, processIn, withProcess};
+ghost use Rattle.record.specs.Record.{recordBytesOf};
 
 // Internal: the record of process i.
 pub fn process_at(image: &[u8], i: usize) -> Process
@@ -62,13 +65,26 @@ fn request_bits(p: Process) -> u8
     pair_bits(p.asked) + 4 * pair_bits(p.itself) + 16 * pair_bits(p.mark) + 64 * pair_bits(p.link)
 }
 
+// Internal: the bytes of a record and its note, written as the record of process i: two numbers of four bytes, so that
+// what is then read of it at once was written at once.
+pub fn put_bytes(image: &mut [u8], i: usize, stage: u8, flags: u8, requests: u8, note: u32)
+    requires { ⌜ (i < 64) × (24 + 8 * i ≤ length (now image)) ⌝ }
+    ensures { λ _. ⌜ now (image .exit)
+        ≡ splice (now (image .entry)) (recordAt i) (recordBytesOf stage flags requests note) ⌝ }
+{
+    let at = 16 + 8 * i;
+    put_number(
+        image,
+        at,
+        wide32(stage) + 256 * wide32(flags) + 65536 * wide32(requests),
+    );
+    put_number(image, at + 4, note);
+}
+
 // Internal: the record of process i, written.
 pub fn put_process(image: &mut [u8], i: usize, p: Process)
     requires { ⌜ (i < 64) × (24 + 8 * i ≤ length (now image)) ⌝ }
     ensures { λ _. ⌜ now (image .exit) ≡ withProcess (now (image .entry)) i p ⌝ }
 {
-    let at = 16 + 8 * i;
-    let note = p.note;
-    put_four(image, at, p.stage, flag_bits(p), request_bits(p), 0);
-    put_number(image, at + 4, note);
+    put_bytes(image, i, p.stage, flag_bits(p), request_bits(p), p.note);
 }

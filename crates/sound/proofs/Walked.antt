@@ -1,139 +1,236 @@
--- The walk over the records, step by step, and soundness from what it gathers. Assumes nothing.
-use Prim.Native.Nat.{ℕ, _+_, _*_, _%_, _^_, _≤_, _<_}
-use mathlib.Core.Path.{_≡_, _∙_}
+-- The walk over the records, step by step. Assumes nothing.
+use Prim.Native.Nat.{ℕ, zero, suc, _+_, _*_, _/_, _%_, _^_, _≤_, _<_}
+use mathlib.Core.Path.{_≡_, refl, sym, _∙_}
 use mathlib.Core.Bool.{Bool, true, false, _&&_, _||_}
 use mathlib.Core.List.{List}
 use native.Mathlib.Omega.{arith}
-use native.Mathlib.Nat.{le-trans}
+use native.Mathlib.Numerals.{add-one}
+use native.Mathlib.Nat.{le-trans, pow-suc, mod-eq-of-lt, add-comm}
 use lib.ListN.{getD}
-use lib.Dec.{eqb, leb, lit<}
-use lib.Bits.{bitOr, or-shifted-r}
-use lib.Pow.{shl-exact, pow-mono}
-use lib.Count.{ones}
-use Rattle.machine.specs.declared.Envelope.{Envelope}
-use Rattle.machine.specs.declared.Process.{Process}
-use Rattle.machine.specs.declared.Refusal.{Refusal}
-use Rattle.machine.specs.declared.Verdict.the-variants as verdict
-use Rattle.machine.specs.Bytes.{bit, number}
-use Rattle.machine.specs.Ring.{recordAt}
-use Rattle.machine.specs.Fields.{Status, full, empty}
-use Rattle.machine.specs.Image.{envelopeIn, processIn, processesIn, sizeIn, stateIn}
-use Rattle.machine.specs.Sound.{headerFits, markedSet, restFits, sound}
-use Rattle.machine.specs.Refusals.{imageVerdict}
-use Rattle.machine.proofs.Bytes.{zeros-3, zeros-number}
+use lib.Dec.{eqb, ltb, lit<}
+use borrow.Author.Tests.{lt-ltb}
+use lib.Bits.{bitOr, or-mod, or-shr, or-add-and, and-le-l, and-le-r}
+use lib.Pow.{shr-shr, pow-mono}
+use lib.Count.{ones, ones-step, ones-cat}
+use Rattle.machine.specs.Bytes.{Bytes, bit, bitOf, number}
+use Rattle.machine.specs.Fields.{Status, full, empty, for}
+use Rattle.machine.specs.Image.{processIn, processesIn}
+use Rattle.machine.specs.Sound.{holds, recordRulesIn, recordsFit, places, stageFits, stagesFit, markedSet}
+use Rattle.machine.proofs.Bits.{bit-le, is-bit}
+use Rattle.machine.proofs.Bytes.{number-4, number-8, number-lt}
+use Rattle.machine.proofs.Lists.{and-first, and-second}
 use Rattle.machine.proofs.Walk.{processes-none, processes-more, length-processes, records-none, records-more}
 use Rattle.machine.proofs.Walk.{stages-none, stages-more}
-use Rattle.machine.proofs.Walk.{places-none, places-more, places-le, marked-none, marked-more, marked-lt, ones-64}
+use Rattle.machine.proofs.Walk.{places-none, places-more, places-le, marked-none, marked-more, marked-lt}
 use Rattle.sound.specs.declared.Walk.{Walk}
-use Rattle.sound.specs.declared.Checked.the-variants.{Done, Refused}
-use Rattle.sound.specs.Walk.{walkOf, walkedOn}
-use Rattle.sound.specs.Checked.{checkedAs}
+use Rattle.sound.specs.Demands.{fromParts}
+use Rattle.sound.specs.Walk.{leftOf, walkedOn, wrongIn, Flags, fitTo, Marks, Walked}
+use Rattle.sound.proofs.Kept.{kept, clean}
 
--- ---- a set with one more member
+pub pairs : (a b c d : Bool) → (a && b) && (c && d) ≡ (a && c) && (b && d)
+pairs true true c d = refl
+pairs true false true d = refl
+pairs true false false d = refl
+pairs false b c d = refl
 
-pub member-on : (set i : ℕ) → i < 64 → set < 2 ^ i → bitOr set (1 * 2 ^ i % 2 ^ 64) ≡ set + bit true * 2 ^ i
-member-on set i below h =
-    let shifted : 1 * 2 ^ i % 2 ^ 64 ≡ 1 * 2 ^ i = shl-exact 1 i 64 (lit< tt) (omega arith) in
-    rw (shifted, or-shifted-r 1 i set h) (omega arith)
+-- ---- what is left of several records
 
-pub member-off : (set i : ℕ) → set ≡ set + bit false * 2 ^ i
-member-off set i = omega arith
+pub or-zero : (a b : ℕ) → bitOr a b ≡ 0 → (a ≡ 0) × (b ≡ 0)
+or-zero a b e =
+    let sum = or-add-and a b in
+    let one = and-le-l a b in
+    let two = and-le-r a b in
+    (omega arith, omega arith)
 
--- ---- the walk
+or-wrong : (a b : ℕ) → wrongIn (bitOr a b) ≡ 0 → (wrongIn a ≡ 0) × (wrongIn b ≡ 0)
+or-wrong a b e =
+    let low : bitOr (a % 256) (b % 256) ≡ 0 = sym (or-mod a b 8) ∙ omega arith in
+    let high : bitOr (a / 1024) (b / 1024) ≡ 0 = sym (or-shr a b 10) ∙ omega arith in
+    let lows = or-zero (a % 256) (b % 256) low in
+    let highs = or-zero (a / 1024) (b / 1024) high in
+    (omega (arith, lows .0, highs .0), omega (arith, lows .1, highs .1))
 
-pub walk-none : (s : List ℕ) (status : Status)
-    → record { fits = true; stages = true; places = 0; full = 0; empty = 0 } ≡ walkOf s status 0
-unfolding walkOf
-walk-none s status = rw (
-  processes-none s,
-  records-none s,
-  stages-none status,
-  places-none,
-  marked-none full,
-  marked-none empty,
-)
+or-flags : (h a h′ a′ : Bool)
+    → bitOr (256 * bit h + 512 * bit a) (256 * bit h′ + 512 * bit a′) ≡ 256 * bit (h || h′) + 512 * bit (a || a′)
+or-flags true true true true = refl
+or-flags true true true false = refl
+or-flags true true false true = refl
+or-flags true true false false = refl
+or-flags true false true true = refl
+or-flags true false true false = refl
+or-flags true false false true = refl
+or-flags true false false false = refl
+or-flags false true true true = refl
+or-flags false true true false = refl
+or-flags false true false true = refl
+or-flags false true false false = refl
+or-flags false false true true = refl
+or-flags false false true false = refl
+or-flags false false false true = refl
+or-flags false false false false = refl
 
-pub walk-more : (s : List ℕ) (status : Status) (i : ℕ)
-    → walkedOn (walkOf s status i) i status (getD s (recordAt i + 1) 0) (getD s (recordAt i + 3) 0) (processIn s i)
-    ≡ walkOf s status (i + 1)
-unfolding walkOf walkedOn
-walk-more s status i =
-    let ps = processesIn s i in
-    let p = processIn s i in
-    rw (
-      processes-more s i,
-      records-more s i,
-      stages-more status ps p,
-      places-more ps p,
-      marked-more full ps p,
-      marked-more empty ps p,
-      length-processes s i,
-    )
+-- whether there is any, with one more
+any-more : (n : ℕ) (b : Bool) → ltb 0 (n + bit b) ≡ ltb 0 n || b
+any-more zero true = refl
+any-more zero false = refl
+any-more (suc n) true = rw (lt-ltb 0 (suc n + 1) (omega arith), lt-ltb 0 (suc n) (omega arith))
+any-more (suc n) false = rw (lt-ltb 0 (suc n + 0) (omega arith), lt-ltb 0 (suc n) (omega arith))
 
-pub walk-step : (s : List ℕ) (status : Status) (i : ℕ) {w w′ : Walk} {p : Process} → w ≡ walkOf s status i
-    → p ≡ processIn s i
-    → w′ ≡ walkedOn w i status (getD s (recordAt i + 1) 0) (getD s (recordAt i + 3) 0) p → w′ ≡ walkOf s status (i + 1)
-walk-step s status i before read next = next ∙ rw (before, read) (walk-more s status i)
+flags-none : Flags 0 0 0
+flags-none = record { h = 0; a = 0; total = refl; any = refl; sum = refl }
 
--- what a walk over i records is below
-pub record Bounded (w : Walk) (i : ℕ) : Type 0 where
-  pub places : w .places ≤ 2 * i
-  pub full : w .full < 2 ^ i
-  pub empty : w .empty < 2 ^ i
+flags-more : {count left flags : ℕ} (h a : Bool) → count ≤ 128 → Flags count left flags
+    → Flags (count + bit h + bit a) (bitOr left (256 * bit h + 512 * bit a))
+    ((flags + (256 * bit h + 512 * bit a)) % 2 ^ 64)
+flags-more {count} {left} {flags} h a few so =
+    let one = bit-le h in
+    let two = bit-le a in
+    let total = so .total in
+    let sum = so .sum in
+    let fits : flags + (256 * bit h + 512 * bit a) < 2 ^ 64 = omega arith in
+    record {
+      h = so .h + bit h;
+      a = so .a + bit a;
+      total = omega arith;
+      any = rw (so .any, or-flags (ltb 0 (so .h)) (ltb 0 (so .a)) h a, any-more (so .h) h, any-more (so .a) a);
+      sum = rw (mod-eq-of-lt fits) (omega arith);
+    }
 
-pub walk-bounded : (s : List ℕ) (status : Status) (i : ℕ) {w : Walk} → w ≡ walkOf s status i → Bounded w i
-unfolding walkOf
-walk-bounded s status i e =
+-- ---- a set with one more
+
+ones-bit : (b : Bool) → ones (bit b) ≡ bit b
+unfolding ones
+ones-bit true = refl
+ones-bit false = refl
+
+ones-double : (set : ℕ) (b : Bool) → ones (2 * set + bit b) ≡ bit b + ones set
+ones-double set b =
+    let one = bit-le b in
+    let odd : (2 * set + bit b) % 2 ≡ bit b = omega arith in
+    let half : (2 * set + bit b) / 2 ≡ set = omega arith in
+    ones-step (2 * set + bit b) ∙ rw (odd, half)
+
+marks-none : (s : List ℕ) (st : Status) → Marks s st 0 0
+marks-none s st = record { below = lit< tt; count = rw (processes-none s, marked-none st) }
+
+marks-more : (s : List ℕ) (st : Status) (i : ℕ) {set : ℕ} → Marks s st i set
+    → Marks s st (i + 1) (2 * set + bit (for (processIn s i .mark) st))
+marks-more s st i {set} so =
+    let b = for (processIn s i .mark) st in
     let ps = processesIn s i in
     let long = length-processes s i in
-    rw e
-    (record {
-      places = rw long at (places-le ps);
-      full = rw long at (marked-lt full ps);
-      empty = rw long at (marked-lt empty ps);
-    })
+    let small : markedSet st ps < 2 ^ i = rw long at (marked-lt st ps) in
+    let more : markedSet st (processesIn s (i + 1)) ≡ bit b * 2 ^ i + markedSet st ps =
+    rw (processes-more s i, marked-more st ps (processIn s i), long) (add-comm _ _) in
+    record {
+      below = rw (add-one i, pow-suc 2 i) (omega (arith, so .below, bit-le b));
+      count =
+          ones-double set b
+          ∙ rw (more, ones-cat i (bit b) (markedSet st ps) small, ones-bit b, so .count);
+    }
 
--- ---- soundness from what the walk gathers
+-- a set of fewer than 64 has room for one more
+pub set-below : (i : ℕ) {set : ℕ} → i < 64 → set < 2 ^ i → set < 2 ^ 63
+set-below i below h = le-trans h (pow-mono {i = i} {j = 63} (omega arith))
 
-pub sound-walked : (s : List ℕ) (n : ℕ) {h : Bool} {e : Envelope} {w : Walk} {countFull countEmpty : ℕ}
-    → n ≡ sizeIn s → n ≤ 64 → h ≡ headerFits s → e ≡ envelopeIn s → w ≡ walkOf s (e .full) n
-    → countFull ≡ e .marked .full → countEmpty ≡ e .marked .empty
-    → h && w .fits
-    && (eqb (w .places) 1 && w .stages && eqb (ones (w .full)) countFull && eqb (ones (w .empty)) countEmpty)
-    ≡ sound s
-unfolding sound restFits stateIn walkOf
-sound-walked s n size most header envelope walked full-count empty-count =
-    let ps = processesIn s (sizeIn s) in
-    let long = length-processes s (sizeIn s) in
-    let below : (st : Status) → markedSet st ps < 2 ^ 64 =
-    λ st. le-trans (rw long at (marked-lt st ps)) (pow-mono {i = sizeIn s} {j = 64} (omega arith)) in
-    rw (
-      walked,
-      header,
-      full-count,
-      empty-count,
-      envelope,
-      size,
-      ← ones-64 (markedSet full ps) (below full),
-      ← ones-64 (markedSet empty ps) (below empty),
-    )
+-- ---- a record's word
 
--- ---- the header, as code reads it
+-- bits 20 and 21 of a word are bits 4 and 5 of its byte 2
+module _ (a b c d note : ℕ) (a-lt : a < 256) (b-lt : b < 256) where
+  from-two : fromParts a b c d note / 65536 ≡ c + 256 * (d + 256 * note)
+  from-two = omega arith
 
-pub header-read : (s : List ℕ) {message spare : ℕ} → message ≡ number s 8 4 → spare ≡ number s 12 4
-    → leb (getD s 1 0) 1 && leb (getD s 2 0) 3 && (eqb (getD s 5 0) 0 && eqb (getD s 6 0) 0 && eqb (getD s 7 0) 0)
-    && (eqb (getD s 1 0) 1 || eqb message 0) && eqb spare 0
-    ≡ headerFits s
-unfolding headerFits
-header-read s m z = rw (m, z, zeros-3 s 5, zeros-number s 8 4, zeros-number s 12 4)
+  bit-20 : fromParts a b c d note / 1048576 % 2 ≡ bit (bitOf c 4)
+  bit-20 =
+      let later : (c + 256 * (d + 256 * note)) / 16 % 2 ≡ c / 16 % 2 = omega arith in
+      rw (← shr-shr (fromParts a b c d note) 16 4, from-two, later) (sym (is-bit (c / 16 % 2) (omega arith)))
 
--- ---- the test of an image: refused, and done
+  bit-21 : fromParts a b c d note / 2097152 % 2 ≡ bit (bitOf c 5)
+  bit-21 =
+      let later : (c + 256 * (d + 256 * note)) / 32 % 2 ≡ c / 32 % 2 = omega arith in
+      rw (← shr-shr (fromParts a b c d note) 16 5, from-two, later) (sym (is-bit (c / 32 % 2) (omega arith)))
 
-module _ (s : List ℕ) where
-  pub checked-refused : (r : Refusal) → imageVerdict s ≡ verdict.Refused r
-      → Refused r ≡ checkedAs (imageVerdict s) (sizeIn s)
-  checked-refused r e = rw e
+module _ (s : List ℕ) (small : Bytes s) (i : ℕ) where
+  abbrev at : ℕ
+  at = 16 + 8 * i
 
-  pub checked-done : {n : ℕ} → n ≡ sizeIn s → imageVerdict s ≡ verdict.Fine
-      → Done (record { size = n }) ≡ checkedAs (imageVerdict s) (sizeIn s)
-  checked-done size e = rw (e, size)
+  abbrev word : ℕ
+  word = number s at 8
+
+  pub word-is : word
+      ≡ fromParts (getD s at 0) (getD s (at + 1) 0) (getD s (at + 2) 0) (getD s (at + 3) 0) (number s (at + 4) 4)
+  word-is = rw (number-8 s at, number-4 s at) (omega arith)
+
+  mark-full : word / 1048576 % 2 ≡ bit (for (processIn s i .mark) full)
+  unfolding processIn
+  mark-full = rw word-is (bit-20 _ _ _ _ _ (small at) (small (at + 1)))
+
+  mark-empty : word / 2097152 % 2 ≡ bit (for (processIn s i .mark) empty)
+  unfolding processIn
+  mark-empty = rw word-is (bit-21 _ _ _ _ _ (small at) (small (at + 1)))
+
+  module _ (status : Status) where
+    -- the rules of record i
+    abbrev fits : Bool
+    fits = holds (recordRulesIn s i) && stageFits status (processIn s i)
+
+    word-kept : fits ≡ true
+        → leftOf (bit status) word ≡ 256 * bit (processIn s i .have) + 512 * bit (processIn s i .arriving)
+    unfolding processIn
+    word-kept ok =
+        rw word-is
+        (kept status _ _ _ _ _ (small at) (small (at + 1)) (small (at + 2)) (small (at + 3)) (number-lt s (at + 4) small)
+        ok)
+
+    word-clean : wrongIn (leftOf (bit status) word) ≡ 0 → fits ≡ true
+    unfolding processIn
+    word-clean none =
+        clean status _ _ _ _ _ (small at) (small (at + 1)) (small (at + 2)) (small (at + 3)) (number-lt s (at + 4) small)
+        (rw word-is at none)
+
+    -- ---- the walk
+
+    fit-more : fitTo s status (i + 1) ≡ fitTo s status i && fits
+    fit-more =
+        rw (processes-more s i, records-more s i, stages-more status (processesIn s i) (processIn s i))
+        (pairs (recordsFit s i) (holds (recordRulesIn s i)) (stagesFit status (processesIn s i))
+        (stageFits status (processIn s i)))
+
+    walk-more : {w : Walk} → i < 64 → Walked s status i w → Walked s status (i + 1) (walkedOn w (bit status) word)
+    unfolding walkedOn
+    walk-more {w} below so =
+        let p = processIn s i in
+        let ps = processesIn s i in
+        let few : places ps ≤ 128 = omega (arith, places-le ps, length-processes s i) in
+        record {
+          clean =
+              λ none.
+              let each = or-wrong (w .left) (leftOf (bit status) word) none in
+              fit-more ∙ rw (so .clean (each .0), word-clean (each .1));
+          found =
+              λ ok.
+              let all : fitTo s status i && fits ≡ true = sym fit-more ∙ ok in
+              let here = word-kept (and-second (fitTo s status i) fits all) in
+              rw (here, processes-more s i, places-more ps p)
+              (flags-more (p .have) (p .arriving) few (so .found (and-first (fitTo s status i) fits all)));
+          full = rw mark-full (marks-more s full i (so .full));
+          empty = rw mark-empty (marks-more s empty i (so .empty));
+        }
+
+pub walk-none : (s : List ℕ) (status : Status)
+    → Walked s status 0 (record { left = 0; flags = 0; full = 0; empty = 0 })
+walk-none s status =
+    record {
+      clean = λ none. rw (processes-none s, records-none s, stages-none status);
+      found = λ ok. rw (processes-none s, places-none) flags-none;
+      full = marks-none s full;
+      empty = marks-none s empty;
+    }
+
+-- as code has it: the status as a digit
+pub walk-step : (s : List ℕ) → Bytes s → (digit i : ℕ) {w w′ : Walk} {word : ℕ} → digit < 2 → i < 64
+    → Walked s (eqb digit 1) i w → word ≡ number s (16 + 8 * i) 8 → w′ ≡ walkedOn w digit word
+    → Walked s (eqb digit 1) (i + 1) w′
+walk-step s small digit i {w} {w′} {word} two below so read next =
+    let same : bit (eqb digit 1) ≡ digit = is-bit digit (omega arith) in
+    rw (next, read) (rw same at (walk-more s small i (eqb digit 1) below so))

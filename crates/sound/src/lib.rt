@@ -1,29 +1,28 @@
-// Whether an image is sound: one walk over its records, and what binds them to the header.
+// Whether an image is sound: one walk over its records, and what binds them to the header. Document 01, "The image", its
+// paragraph on soundness.
 use image::Ring;
-use machine::Process;
 use machine::Refusal;
 use record::byte::digit;
-use record::byte::number_at;
+use record::byte::eight_at;
 use record::byte::wide;
-use record::byte::wide32;
-use record::header::envelope_at;
-use record::process::process_at;
+use record::byte::wide64;
+use std::num::wrapping_add_u64;
 ghost use mathlib.Core.Path.{_≡_};
 ghost use Prim.Native.Nat.{_+_, _*_, _^_, _≤_, _<_};
 ghost use lib.ListN.{length};
-ghost use Rattle.machine.specs.Bytes.{bit};
+ghost use lib.Dec.{eqb};
 ghost use Rattle.machine.specs.Image.{sizeIn};
 ghost use Rattle.machine.specs.Sound as rule;
 ghost use Rattle.machine.specs.Refusals.{imageVerdict};
-ghost use Rattle.sound.specs.Walk.{walkOf, walkedOn};
+ghost use Rattle.sound.specs.Demands.{demandOf};
+ghost use Rattle.sound.specs.Walk.{walkedOn, Walked, headerIn};
 ghost use Rattle.sound.specs.Checked.{checkedAs};
 
-// What a walk over the records gathers: whether their bytes are in range, whether their stages have the envelope that
-// they need, how many have and arriving flags are set, and the sets of the processes marked for full and for empty.
+// What a walk over the records gathers: every bit that is left under a record's mask, their sum, which counts the have
+// and arriving flags where no other bit is left, and the sets of the processes marked for full and for empty.
 pub struct Walk {
-    pub fits: bool,
-    pub stages: bool,
-    pub places: u8,
+    pub left: u64,
+    pub flags: u64,
     pub full: u64,
     pub empty: u64,
 }
@@ -34,82 +33,109 @@ pub enum Checked {
     Refused(Refusal),
 }
 
-// A record's own rules: its stage, bytes 1 and 3, marks and note.
-fn record_fits(flags: u8, third: u8, p: Process) -> bool
-    ensures { λ r. ⌜ r ≡ rule.holds (rule.recordRules flags third p) ⌝ }
-{
-    let stage = p.stage;
-    (stage <= 10)
-        & (flags <= 7)
-        & (!p.mark.full | ((7 <= stage) & (stage <= 10)))
-        & (!p.mark.empty | ((2 <= stage) & (stage <= 5)))
-        & (third == 0)
-        & (((1 <= stage) & (stage <= 3)) | (p.note == 0))
-}
+// A record's bits that must be 0, by its stage, with have and arriving, which are counted, and without news and the
+// requests. In stages 0 and 6 no mark and no note may stand; in 1 a note; in 2 and 3 a note and mark empty; in 4 and 5
+// mark empty; in 7 to 10 mark full.
+const PLAIN: u64 = 0xFFFF_FFFF_FF30_FBF0;
 
-// Whether a process has the envelope that its stage needs.
-fn stage_fits(full: bool, p: Process) -> bool
-    ensures { λ r. ⌜ r ≡ rule.stageFits full p ⌝ }
-{
-    let stage = p.stage;
-    let with_empty = (stage == 3) | (stage == 9) | (stage == 10);
-    let with_full = (stage == 4) | (stage == 5) | (stage == 8);
-    (!with_empty | (p.have & !full)) & (!with_full | (p.have & full))
-}
+const TOLD: u64 = 0x0000_0000_FF30_FBF0;
 
-// A set of processes below i, with process i where it is marked.
-fn with_member(set: u64, i: usize, marked: bool) -> u64
-    requires { ⌜ (i < 64) × (set < 2 ^ i) ⌝ }
-    ensures { λ r. ⌜ r ≡ set + bit marked * 2 ^ i ⌝ }
+const SENDING: u64 = 0x0000_0000_FF10_FBF0;
+
+const FILLED: u64 = 0xFFFF_FFFF_FF10_FBF0;
+
+const RECEIVING: u64 = 0xFFFF_FFFF_FF20_FBF0;
+
+// The mask of an entry, which is stage + 16 * have + 32 * status. A stage that may not stand there has its whole byte
+// tested, and none is 0. One value an arm, and a last entry of its own, so that the masks lie in one table.
+fn demand(entry: u64) -> u64
+    requires { ⌜ entry < 64 ⌝ }
+    ensures { λ r. ⌜ r ≡ demandOf entry ⌝ }
 {
-    if marked { set | (1 << i) } else { set }
+    match entry {
+        // empty, without have
+        0 => PLAIN,
+        1 => TOLD,
+        2 => SENDING,
+        6 => PLAIN,
+        7 => RECEIVING,
+        // empty, with have
+        16 => PLAIN,
+        17 => TOLD,
+        18 => SENDING,
+        19 => SENDING,
+        22 => PLAIN,
+        23 => RECEIVING,
+        25 => RECEIVING,
+        26 => RECEIVING,
+        // full, without have
+        32 => PLAIN,
+        33 => TOLD,
+        34 => SENDING,
+        38 => PLAIN,
+        39 => RECEIVING,
+        // full, with have
+        48 => PLAIN,
+        49 => TOLD,
+        50 => SENDING,
+        52 => FILLED,
+        53 => FILLED,
+        54 => PLAIN,
+        55 => RECEIVING,
+        56 => RECEIVING,
+        63 => 0x1FF,
+        _ => 0xFF,
+    }
 }
 
 impl Walk {
-    // The walk with process i too.
-    fn on(self, i: usize, full: bool, flags: u8, third: u8, p: Process) -> Walk
-        requires { ⌜ (i < 64) × (self .places ≤ 2 * i) × (self .full < 2 ^ i) × (self .empty < 2 ^ i) ⌝ }
-        ensures { λ r. ⌜ r ≡ walkedOn self i full flags third p ⌝ }
+    // The walk with one record more.
+    fn on(self, status: u64, word: u64) -> Walk
+        requires { ⌜ (status < 2) × (self .full < 2 ^ 63) × (self .empty < 2 ^ 63) ⌝ }
+        ensures { λ r. ⌜ r ≡ walkedOn self status word ⌝ }
     {
+        let low = word % 512;
+        let left = demand(32 * status + (low + low / 16) % 32) & word;
         Walk {
-            fits: self.fits & record_fits(flags, third, p),
-            stages: self.stages & stage_fits(full, p),
-            places: self.places + digit(p.have) + digit(p.arriving),
-            full: with_member(self.full, i, p.mark.full),
-            empty: with_member(self.empty, i, p.mark.empty),
+            left: self.left | left,
+            flags: wrapping_add_u64(self.flags, left),
+            full: 2 * self.full + word / 0x10_0000 % 2,
+            empty: 2 * self.empty + word / 0x20_0000 % 2,
         }
     }
 
     // The walk over the first n records.
-    fn over(image: &[u8], full: bool, n: usize) -> Walk
-        requires { ⌜ (n ≤ 64) × (16 + 8 * n ≤ length (now image)) ⌝ }
-        ensures { λ r. ⌜ r ≡ walkOf (now (image .entry)) full n ⌝ }
+    fn over(image: &[u8], status: u64, n: usize) -> Walk
+        requires { ⌜ (status < 2) × (n ≤ 64) × (16 + 8 * n ≤ length (now image)) ⌝ }
+        ensures { λ r. ⌜ Walked (now (image .entry)) (eqb status 1) n r ⌝ }
     {
         let mut walk = Walk {
-            fits: true,
-            stages: true,
-            places: 0,
+            left: 0,
+            flags: 0,
             full: 0,
             empty: 0,
         };
         for i in 0..n {
-            let at = 16 + 8 * i;
-            walk = walk.on(i, full, image[at + 1], image[at + 3], process_at(image, i));
+            walk = walk.on(status, eight_at(image, 16 + 8 * i));
         }
         walk
     }
 }
 
-// The header's own rules.
-fn header_fits(image: &[u8]) -> bool
-    requires { ⌜ 16 ≤ length (now image) ⌝ }
-    ensures { λ r. ⌜ r ≡ rule.headerFits (now (image .entry)) ⌝ }
+// The header's own rules, by its two words.
+fn header_fits(first: u64, second: u64) -> bool
+    ensures { λ r. ⌜ r ≡ headerIn first second ⌝ }
 {
-    let status = image[1];
-    let unnamed = (image[5] == 0) & (image[6] == 0) & (image[7] == 0);
-    let no_message = number_at(image, 8) == 0;
-    let spare = number_at(image, 12) == 0;
-    (status <= 1) & (image[2] <= 3) & unnamed & ((status == 1) | no_message) & spare
+    let status = first / 0x100 % 256;
+    let markers = first / 0x1_0000 % 256;
+    let unnamed = first / 0x100_0000_0000;
+    let message = second % 0x1_0000_0000;
+    let spare = second / 0x1_0000_0000;
+    (status <= 1)
+        & (markers <= 3)
+        & (unnamed == 0)
+        & ((status == 1) | (message == 0))
+        & (spare == 0)
 }
 
 // Internal: whether an image of n processes is sound.
@@ -117,13 +143,17 @@ pub fn is_sound(image: &[u8], n: usize) -> bool
     requires { ⌜ (n ≡ sizeIn (now image)) × (n ≤ 64) × (16 + 8 * n ≤ length (now image)) ⌝ }
     ensures { λ r. ⌜ r ≡ rule.sound (now (image .entry)) ⌝ }
 {
-    let e = envelope_at(image);
-    let w = Walk::over(image, e.full, n);
-    let rest = (w.places == 1)
-        & w.stages
-        & (u64::count_ones(w.full) == wide32(e.marked.full))
-        & (u64::count_ones(w.empty) == wide32(e.marked.empty));
-    header_fits(image) & w.fits & rest
+    let first = eight_at(image, 0);
+    let second = eight_at(image, 8);
+    let status = wide64(digit(first / 0x100 % 256 == 1));
+    let w = Walk::over(image, status, n);
+    let one = ((w.left == 256) | (w.left == 512)) & (w.flags == w.left);
+    let full = (first / 0x100_0000 % 256) as u32;
+    let empty = (first / 0x1_0000_0000 % 256) as u32;
+    header_fits(first, second)
+        & one
+        & (u64::count_ones(w.full) == full)
+        & (u64::count_ones(w.empty) == empty)
 }
 
 impl Checked {

@@ -2,16 +2,17 @@
 use Prim.Native.Nat.{ℕ, zero, suc, _+_, _-_, _<_, _≤_}
 use mathlib.Core.Path.{_≡_, sym, _∙_}
 use mathlib.Core.List.{List, [], _∷_, _++_, append-assoc}
-use mathlib.Core.Bool.{true, false, _&&_}
+use mathlib.Core.Bool.{true, _&&_, and-assoc}
 use native.Mathlib.Omega.{arith}
 use lib.ListN.{length, getD, set, take, drop, replicate, length-drop, length-replicate, replicate-append-replicate}
 use lib.ListN.{take-append-drop}
 use lib.Seq.{sets-eq, length-take-le}
+use lib.Bits.{bitOr}
 use lib.Dec.{eqb}
-use borrow.Author.Tests.{ne-eqb, eq-eqb}
 use Rattle.machine.specs.Bytes.{part, allZero, zeros, splice}
 use Rattle.machine.proofs.Bytes.{zeros-more, length-splice, splice-next}
 use Rattle.machine.proofs.Rewrite.{part-add, part-more}
+use Rattle.span.proofs.Ored.{or-none}
 
 -- ---- written
 
@@ -59,13 +60,14 @@ module _ (s : List ℕ) (at i count : ℕ) (h : i < count) where
       let f : at + i + 1 ≡ at + (i + 1) = omega arith in
       rw (e, zeros-more s (at + i) (count - (i + 1)), f)
 
-  -- a byte that isn't zero decides
-  pub zeros-not : (getD s (at + i) 0 ≡ 0 → ⊥) → zeros s (at + i) (count - i) ≡ false
-  zeros-not ne = next ∙ rw (ne-eqb (getD s (at + i) 0) 0 ne)
-
-  -- a zero leaves it to the rest
-  pub zeros-on : getD s (at + i) 0 ≡ 0 → zeros s (at + i) (count - i) ≡ zeros s (at + (i + 1)) (count - (i + 1))
-  zeros-on e = next ∙ rw (eq-eqb (getD s (at + i) 0) 0 e)
+  -- one byte more of what is or-ed
+  pub zeros-on : (any : ℕ)
+      → eqb any 0 && zeros s (at + i) (count - i)
+      ≡ eqb (bitOr any (getD s (at + i) 0)) 0 && zeros s (at + (i + 1)) (count - (i + 1))
+  zeros-on any =
+      let x = eqb (getD s (at + i) 0) 0 in
+      let rest = zeros s (at + (i + 1)) (count - (i + 1)) in
+      rw (next, or-none any (getD s (at + i) 0)) (sym (and-assoc (eqb any 0) x rest))
 
 pub zeros-end : (s : List ℕ) (at i count : ℕ) → count ≤ i → zeros s (at + i) (count - i) ≡ true
 unfolding zeros allZero

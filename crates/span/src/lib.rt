@@ -24,15 +24,14 @@ pub fn copy(from: &[u8], at: usize, to: &mut [u8], start: usize, count: usize)
     }
 }
 
-// Internal: whether so many bytes from `at` on are zero.
+// Internal: whether so many bytes from `at` on are zero: all are or-ed, and no branch hangs on a byte.
 pub fn is_clear(bytes: &[u8], at: usize, count: usize) -> bool
     requires { ⌜ at + count ≤ length (now bytes) ⌝ }
     ensures { λ r. ⌜ r ≡ zeros (now (bytes .entry)) at count ⌝ }
 {
+    let mut any: u8 = 0;
     for i in 0..count {
-        if bytes[at + i] != 0 {
-            return false;
-        }
+        any = any | bytes[at + i];
     }
-    true
+    any == 0
 }

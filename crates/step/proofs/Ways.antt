@@ -1,13 +1,16 @@
 -- Each way through the step call and through what it is made of is that way through the rule. The answers of lower
 -- functions are variables here, each with the rule's value that it is known to be. Assumes nothing.
-use Prim.Native.Nat.{ℕ, _<_}
-use mathlib.Core.Path.{_≡_, sym, ap, _∙_}
-use mathlib.Core.Bool.{Bool, true}
+use Prim.Native.Nat.{ℕ, _+_, _*_, _≤_, _<_}
+use mathlib.Core.Path.{_≡_, refl, sym, ap, subst, _∙_}
+use mathlib.Core.Bool.{Bool, true, false, not, true≢false}
+use borrow.Author.Tests.{not-true, not-false}
 use mathlib.Core.List.{List, []}
 use native.Mathlib.Omega.{arith}
+use lib.ListN.{length}
 use Rattle.machine.specs.declared.Envelope.{Envelope}
 use Rattle.machine.specs.declared.Process.{Process}
 use Rattle.machine.specs.declared.Outcome.{Outcome}
+use Rattle.machine.specs.declared.Outcome.the-variants.{Idle, Moved, Fill, Take, Sent, Got}
 use Rattle.machine.specs.declared.Reaction.{Reaction}
 use Rattle.machine.specs.declared.Refusal.{Refusal}
 use Rattle.machine.specs.declared.Verdict.the-variants as verdict
@@ -19,7 +22,7 @@ use Rattle.machine.specs.Refusals.{codes, imageVerdict, eventVerdict}
 use Rattle.machine.specs.Answers.{answer, outcomeValues, stepVerdict, stepAnswer, stepImage}
 use Rattle.machine.specs.Bytes.{Bytes}
 use Rattle.machine.proofs.Rewrite.{rewrite-image}
-use Rattle.machine.proofs.Refusals.{image-fine, event-below}
+use Rattle.machine.proofs.Refusals.{image-fine, event-below, event-code}
 use Rattle.machine.proofs.Stored.{read-at, read-envelope-at}
 use Rattle.machine.proofs.Idle.{idle-keeps}
 use Rattle.machine.proofs.Sums.{marked-small, marked-counted}
@@ -35,9 +38,13 @@ use Rattle.event.specs.declared.Parsed.the-variants as parsed
 use Rattle.event.specs.Parsed.{ruled, parsedAs}
 use Rattle.event.proofs.Apart as event-test
 use Rattle.place.specs.Placed.{placedIn}
-use Rattle.step.proofs.Written.{placed-written}
+use Rattle.quick.specs.Possible.{Possible}
+use Rattle.quick.specs.Quick as quick
+use Rattle.quick.proofs.Images.{stageIn, flagsIn, requestsIn}
+use Rattle.quick.proofs.Ways.{low-flags, possible-here}
+use Rattle.place.proofs.Written.{placed-written}
 
--- ---- the checked step
+-- ---- the whole reaction
 
 module _ (s : List ℕ) (v : rule.Event) {e : Envelope} {p : Process} (fine : imageVerdict s ≡ verdict.Fine)
     (below : v .process < sizeIn s) (read-e : e ≡ envelopeIn s) (read-p : p ≡ processIn s (v .process)) where
@@ -77,6 +84,73 @@ module _ (s : List ℕ) (v : rule.Event) {e : Envelope} {p : Process} (fine : im
           ∙ rw same,
     )
 
+-- ---- the checked step
+
+-- an outcome that says idle
+idle-is : (o : Outcome) → isIdle o ≡ true → o ≡ Idle
+idle-is Idle h = refl
+idle-is Moved h = absurd (true≢false (sym h))
+idle-is (Fill m) h = absurd (true≢false (sym h))
+idle-is (Take m) h = absurd (true≢false (sym h))
+idle-is Sent h = absurd (true≢false (sym h))
+idle-is Got h = absurd (true≢false (sym h))
+
+module _ (s : List ℕ) (event : Event) (fine : imageVerdict s ≡ verdict.Fine) (below : event .process < sizeIn s) {b : Bool}
+    (test : Possible (event .code) (stageIn s (event .process)) (flagsIn s (event .process))
+    (requestsIn s (event .process)) b) where
+  -- an event that isn't possible is idle, and changes nothing
+  pub not-possible : Bytes s → not b ≡ true
+      → (Idle ≡ rule.outcome (stateIn s) (ruled event)) × (s ≡ imageWith s (rule.apply (stateIn s) (ruled event)))
+  not-possible small h =
+      let image = image-fine s fine in
+      let idle : isIdle (rule.outcome (stateIn s) (ruled event)) ≡ true =
+      not-false _ (sym (possible-here s event below test) ∙ not-true b h) in (
+        sym (idle-is (rule.outcome (stateIn s) (ruled event)) idle),
+        sym (rewrite-image s (image .room) small (image .fits))
+            ∙ ap (imageWith s) (sym (idle-keeps (stateIn s) (ruled event) idle)),
+      )
+
+  -- any other is ready for the quick way
+  pub may-be-quick : event .code < 8 → not b ≡ false → quick.Ready s event
+  may-be-quick code h =
+      record {
+        fine = fine;
+        below = below;
+        code = code;
+        moves = not-true _ (sym (possible-here s event below test) ∙ not-false b h);
+      }
+
+  -- which does it
+  pub quickly-done : {t : List ℕ} {r : Bool} → quick.MovesIf r s event t → r ≡ true
+      → (Moved ≡ rule.outcome (stateIn s) (ruled event)) × (t ≡ imageWith s (rule.apply (stateIn s) (ruled event)))
+  quickly-done {t} {r} does is =
+      let moves = subst (λ (x : Bool). quick.MovesIf x s event t) is does in
+      (sym (moves .0), moves .1)
+
+  -- or leaves the image as it was
+  pub quickly-left : {t : List ℕ} {r : Bool} → quick.MovesIf r s event t → r ≡ false → t ≡ s
+  quickly-left {t} does is = subst (λ (x : Bool). quick.MovesIf x s event t) is does
+
+-- the whole reaction on that image is the one on s
+pub after-left : {s t : List ℕ} (event : Event) → t ≡ s → {o : Outcome} {u : List ℕ}
+    → o ≡ rule.outcome (stateIn t) (ruled event) → u ≡ imageWith t (rule.apply (stateIn t) (ruled event))
+    → (o ≡ rule.outcome (stateIn s) (ruled event)) × (u ≡ imageWith s (rule.apply (stateIn s) (ruled event)))
+after-left event same says wrote = (says ∙ rw same, wrote ∙ rw same)
+
+-- the event's process is one of 64, and its record lies in the image
+pub few : (s : List ℕ) (i : ℕ) → imageVerdict s ≡ verdict.Fine → i < sizeIn s → i < 64
+few s i fine below = omega (arith, image-fine s fine .size .most)
+
+pub within : (s : List ℕ) (i : ℕ) → imageVerdict s ≡ verdict.Fine → i < sizeIn s → 24 + 8 * i ≤ length s
+within s i fine below = omega (arith, image-fine s fine .room)
+
+-- what must be known of the record's bytes for the test
+pub may-test : (s : List ℕ) (event : Event) → imageVerdict s ≡ verdict.Fine → event .process < sizeIn s → event .code < 8
+    → (event .code < 8) × (stageIn s (event .process) ≤ 10) × (flagsIn s (event .process) ≤ 7)
+may-test s event fine below code =
+    let range = low-flags s (event .process) fine below in
+    (code, range .0, range .1)
+
 -- ---- the step call
 
 module _ (s event : List ℕ) {c : Checked} (test : c ≡ checkedAs (imageVerdict s) (sizeIn s)) where
@@ -111,9 +185,12 @@ module _ (s event : List ℕ) {c : Checked} (test : c ≡ checkedAs (imageVerdic
       the-event : ruled u ≡ eventIn event 0
       the-event = event-test.done-event (eventVerdict codes (ring .size) event) (eventIn event 0) read parts
 
-      pub may-perform : (imageVerdict s ≡ verdict.Fine) × (u .process < sizeIn s)
-      may-perform =
-          (fine, rw (ap (λ (x : rule.Event). x .process) the-event) (event-below (sizeIn s) event accepted))
+      pub may-perform : (imageVerdict s ≡ verdict.Fine) × (u .process < sizeIn s) × (u .code < 8)
+      may-perform = (
+        fine,
+        rw (ap (λ (x : rule.Event). x .process) the-event) (event-below (sizeIn s) event accepted),
+        rw (ap (λ (x : rule.Event). x .code) the-event) (event-code (sizeIn s) event accepted),
+      )
 
       pub step-done : {o : Outcome} {t : List ℕ} → o ≡ rule.outcome (stateIn s) (ruled u)
           → t ≡ imageWith s (rule.apply (stateIn s) (ruled u))

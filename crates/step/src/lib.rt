@@ -6,6 +6,8 @@ use image::Ring;
 use machine::Outcome;
 use machine::Refusal;
 use place::place;
+use quick::is_possible;
+use quick::quickly;
 use record::byte::wide;
 use record::header::envelope_at;
 use record::process::process_at;
@@ -41,8 +43,9 @@ fn is_idle(outcome: Outcome) -> bool
     }
 }
 
-// Internal: the checked step. The image is known to be sound, and the event to be at a process of it.
-pub fn perform(image: &mut [u8], event: Event) -> Outcome
+// Internal: the whole reaction of an event, read, made and written. The image is known to be sound, and the event to be
+// at a process of it.
+pub fn enact(image: &mut [u8], event: Event) -> Outcome
     requires { ⌜ (imageVerdict (now image) ≡ verdict.Fine) × (event .process < sizeIn (now image)) ⌝ }
     ensures answer { λ r. ⌜ r ≡ rule.outcome (stateIn (now (image .entry))) (ruled event) ⌝ }
     ensures buffer { λ _. ⌜ now (image .exit)
@@ -61,6 +64,25 @@ pub fn perform(image: &mut [u8], event: Event) -> Outcome
     }
     place(image, ring, i, r);
     outcome
+}
+
+// Internal: the checked step: nothing for an event that isn't possible, the quick way for one that needs no envelope,
+// and else its whole reaction.
+pub fn perform(image: &mut [u8], event: Event) -> Outcome
+    requires { ⌜ (imageVerdict (now image) ≡ verdict.Fine) × (event .process < sizeIn (now image))
+        × (event .code < 8) ⌝ }
+    ensures answer { λ r. ⌜ r ≡ rule.outcome (stateIn (now (image .entry))) (ruled event) ⌝ }
+    ensures buffer { λ _. ⌜ now (image .exit)
+        ≡ imageWith (now (image .entry)) (rule.apply (stateIn (now (image .entry))) (ruled event)) ⌝ }
+{
+    let at = 16 + 8 * event.process;
+    if !is_possible(event.code, image[at], image[at + 1], image[at + 2]) {
+        return Outcome::Idle;
+    }
+    if quickly(image, event) {
+        return Outcome::Moved;
+    }
+    enact(image, event)
 }
 
 // The step call: the event's outcome, and the image as the event leaves it. Refused with 3 or 4 for the image, 5 for

@@ -1,2 +1,3 @@
 -- Laws that the functions of this crate cite.
+pub mod Words
 pub mod Ways

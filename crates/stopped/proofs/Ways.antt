@@ -1,4 +1,4 @@
--- Each way through the stopped call, and each turn of its walk, is the rule's. The answers of lower functions are
+-- Each way through the stopped call is the rule's. The answers of lower functions are
 -- variables here, each with the rule's value that it is known to be. Assumes nothing.
 use Prim.Native.Nat.{ℕ, _+_, _*_, _≤_}
 use mathlib.Core.Path.{_≡_, sym, _∙_}
@@ -6,36 +6,31 @@ use mathlib.Core.Bool.{Bool, true, false, _&&_}
 use mathlib.Core.List.{List, [], _∷_}
 use native.Mathlib.Omega.{arith}
 use lib.ListN.{length}
-use Rattle.machine.specs.declared.Process.{Process}
 use Rattle.machine.specs.declared.Refusal.{Refusal}
 use Rattle.machine.specs.declared.Verdict.the-variants as verdict
-use Rattle.machine.specs.Lists.{all}
-use Rattle.machine.specs.Image.{envelopeIn, processIn, processesIn, sizeIn, stateIn}
+use Rattle.machine.specs.Image.{envelopeIn, sizeIn, stateIn}
 use Rattle.machine.specs.Stopped.{quiet, stopped}
+use Rattle.machine.specs.Sound.{headerFits, recordsFit, restFits, sound}
 use Rattle.machine.specs.Refusals.{imageVerdict}
 use Rattle.machine.specs.Answers.{answer, stoppedAnswer}
-use Rattle.machine.proofs.Lists.{all-more}
+use Rattle.machine.proofs.Lists.{and-first, and-second}
 use Rattle.machine.proofs.Refusals.{image-fine}
-use Rattle.machine.proofs.Walk.{processes-none, processes-more}
 use Rattle.image.specs.declared.Ring.{Ring}
 use Rattle.sound.specs.declared.Checked.{Checked}
 use Rattle.sound.specs.declared.Checked.the-variants as checked
 use Rattle.sound.specs.Checked.{checkedAs}
 use Rattle.sound.proofs.Apart.{refused-is, done-fine, done-size}
-use Rattle.stopped.specs.Stopped.{QuietAt, QuietAre}
-
--- ---- the walk
-
-pub quiet-none : (s : List ℕ) → QuietAre s 0 true
-unfolding all
-quiet-none s e = rw (processes-none s)
-
-pub quiet-more : (s : List ℕ) (i : ℕ) {b q : Bool} {p : Process} → QuietAre s i b → p ≡ processIn s i
-    → QuietAt p q → QuietAre s (i + 1) (b && q)
-quiet-more s i before read this e =
-    rw (before e, this e, read, processes-more s i, all-more (quiet e) (processesIn s i) (processIn s i))
+use Rattle.stopped.specs.Stopped.{QuietAre}
 
 -- ---- the call
+
+-- a sound image's records are in range
+records-of : (s : List ℕ) → sound s ≡ true → recordsFit s (sizeIn s) ≡ true
+unfolding sound
+records-of s ok =
+    let a = headerFits s in
+    let b = recordsFit s (sizeIn s) in
+    and-second a b (and-first (a && b) (restFits (stateIn s)) ok)
 
 module _ (s : List ℕ) {c : Checked} (test : c ≡ checkedAs (imageVerdict s) (sizeIn s)) where
   pub stopped-refused : {r : Refusal} → c ≡ checked.Refused r → answer (verdict.Refused r) [] ≡ stoppedAnswer s
@@ -49,11 +44,11 @@ module _ (s : List ℕ) {c : Checked} (test : c ≡ checkedAs (imageVerdict s) (
     size : ring .size ≡ sizeIn s
     size = done-size (imageVerdict s) (sizeIn s) test whole
 
-    -- the whole image lies in the buffer
-    pub may-walk : (ring .size ≤ 64) × (16 + 8 * ring .size ≤ length s)
+    -- the whole image lies in the buffer, and its records' bytes are in range
+    pub may-walk : (ring .size ≤ 64) × (16 + 8 * ring .size ≤ length s) × (recordsFit s (ring .size) ≡ true)
     may-walk =
         let image = image-fine s fine in
-        (omega (arith, size, image .size .most), omega (arith, size, image .room))
+        (omega (arith, size, image .size .most), omega (arith, size, image .room), rw size (records-of s (image .fits)))
 
     walked : {b : Bool} → QuietAre s (ring .size) b → b ≡ stopped (stateIn s)
     unfolding stopped stateIn

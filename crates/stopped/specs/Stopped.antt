@@ -5,7 +5,6 @@ use mathlib.Core.Path.{_≡_}
 use mathlib.Core.Bool.{Bool}
 use mathlib.Core.List.{List, [], _∷_}
 use Rattle.machine.specs.declared.Envelope.{Envelope}
-use Rattle.machine.specs.declared.Process.{Process}
 use Rattle.machine.specs.declared.Verdict.the-variants as verdict
 use Rattle.machine.specs.Lists.{all}
 use Rattle.machine.specs.Image.{processesIn}
@@ -20,10 +19,6 @@ told Yes = answer verdict.Fine (1 ∷ [])
 told No = answer verdict.Fine (0 ∷ [])
 told (Refused r) = answer (verdict.Refused r) []
 
--- b says whether events 2 to 7 are idle at a process, whatever the envelope
-abbrev pub QuietAt : Process → Bool → Type 0
-QuietAt p b = (e : Envelope) → b ≡ quiet e p
-
--- and whether they are so at the first n processes of an image
+-- b says whether events 2 to 7 are idle at the first n processes of an image, whatever the envelope
 abbrev pub QuietAre : List ℕ → ℕ → Bool → Type 0
 QuietAre s n b = (e : Envelope) → b ≡ all (quiet e) (processesIn s n)

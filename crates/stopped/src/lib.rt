@@ -1,14 +1,15 @@
 // The stopped call: yes exactly when events 2 to 7 are idle at every process. Document 01, "The eight events", its last
 // paragraph.
-use machine::Process;
 use machine::Refusal;
-use record::process::process_at;
+use record::byte::eight_at;
 use sound::Checked;
 ghost use mathlib.Core.Path.{_≡_};
 ghost use Prim.Native.Nat.{_+_, _*_, _≤_};
 ghost use lib.ListN.{length};
+ghost use mathlib.Core.Bool.{true};
 ghost use Rattle.machine.specs.Answers.{stoppedAnswer};
-ghost use Rattle.stopped.specs.Stopped.{told, QuietAt, QuietAre};
+ghost use Rattle.machine.specs.Sound.{recordsFit};
+ghost use Rattle.stopped.specs.Stopped.{told, QuietAre};
 
 // What the stopped call answers.
 pub enum StoppedAnswer {
@@ -17,26 +18,21 @@ pub enum StoppedAnswer {
     Refused(Refusal),
 }
 
-// Whether events 2 to 7 are idle at a process: main has no work, and get and put have nothing to take. The envelope
-// doesn't matter.
-fn is_quiet(p: Process) -> bool
-    ensures { λ r. ⌜ QuietAt p r ⌝ }
-{
-    let stage = p.stage;
-    let told = (stage == 1) | (stage == 4) | (stage == 6) | (stage == 9);
-    !(stage == 3) & !(stage == 8) & !told & !p.arriving & !p.link.full & !p.link.empty & !p.news
-}
-
-// Whether they are so at the first n processes.
+// Whether nothing waits at the first n processes: no news, no envelope and no request on a link, and no stage that main
+// or get ends. Of stages 0 to 10 those are 1, 3, 4, 6, 8 and 9, where 13 * stage has bit 2 or bit 5. The envelope doesn't
+// matter.
 fn are_quiet(image: &[u8], n: usize) -> bool
-    requires { ⌜ (n ≤ 64) × (16 + 8 * n ≤ length (now image)) ⌝ }
+    requires { ⌜ (n ≤ 64) × (16 + 8 * n ≤ length (now image)) × (recordsFit (now image) n ≡ true) ⌝ }
     ensures { λ r. ⌜ QuietAre (now (image .entry)) n r ⌝ }
 {
-    let mut quiet = true;
+    let mut any: u64 = 0;
+    let mut stages: u64 = 0;
     for i in 0..n {
-        quiet = quiet & is_quiet(process_at(image, i));
+        let word = eight_at(image, 16 + 8 * i);
+        any = any | word;
+        stages = stages | 13 * (word % 256) & 36;
     }
-    quiet
+    (any & 0xC0_0600 == 0) & (stages == 0)
 }
 
 // The stopped call: whether the ring is stopped. Refused with 3 or 4 for the image. The test's answer is done or

@@ -18,7 +18,7 @@ use Rattle.machine.specs.Tape.{eventIn, eventsIn, slotAt, listOf}
 use Rattle.machine.specs.Refusals.{tapeVerdict}
 use Rattle.machine.specs.Answers.{runEvents}
 use Rattle.machine.proofs.Bytes.{number-lt}
-use Rattle.machine.proofs.Refusals.{fits-process}
+use Rattle.machine.proofs.Refusals.{fits-process, fits-code}
 use Rattle.machine.proofs.Lists.{length-tabulate, getD-tabulate, all-each}
 use Rattle.machine.proofs.Runs.{fitting}
 use Rattle.blocks.specs.Counted.{eventsOn}
@@ -71,7 +71,14 @@ module _ (codes n : ℕ) (s : List ℕ) (accepted : tapeVerdict codes n s ≡ Fi
         lt-ltb _ (2 ^ 32) (number-lt s (at + 4) small),
       )
 
-  -- and so does every event
+  -- and has one of the codes
+  pub event-code : (k : ℕ) → k < eventsOn s → eventIn s (slotAt (k / 63) (k % 63)) .code < codes
+  unfolding eventIn
+  event-code k h =
+      let placed = event-placed s tape k h in
+      fits-code codes n s (slotAt (k / 63) (k % 63)) (tape .blocks (k / 63) (placed .block) .events (k % 63) (placed .slot))
+
+  -- every event fits
   pub events-fit : Bytes s → all (fitting n) (runEvents s) ≡ true
   events-fit small =
       all-each (fitting n) (runEvents s) nobody

@@ -7,16 +7,16 @@ use Rattle.machine.specs.declared.Refusal.the-variants as refusal
 use Rattle.machine.specs.Refusals.{first, listVerdict}
 use Rattle.blocks.proofs.First.{first-on, first-found, first-end}
 use Rattle.blocks.proofs.Blocks.{eventTest}
-use Rattle.blocks.proofs.Ways.{list-length-refused, events-start, test-refused, test-fine}
+use Rattle.blocks.proofs.Ways.{list-length-refused, events-from, test-refused, test-fine}
 use Rattle.blocks.proofs.list_verdict.Statement.{statement}
 use Rattle.blocks.proofs.list_verdict.Tie as tie
 
 abbrev Inv-loop : tie.InvT-loop
-Inv-loop list n codes verdict k₀ k-end k =
-    (k ≤ k-end) × (first (eventTest codes n list) k (k-end - k) ≡ listVerdict codes n list)
+Inv-loop list n codes verdict events k₀ k =
+    (k ≤ events) × (first (eventTest codes n list) k (events - k) ≡ listVerdict codes n list)
 
 abbrev μ-loop : tie.MeasureT-loop
-μ-loop list n codes verdict k₀ k-end k = k-end - k
+μ-loop list n codes verdict events k₀ k = events - k
 
 mul-length-verdict : tie.Need-mul-length-verdict Inv-loop μ-loop
 mul-length-verdict c = omega arith
@@ -36,12 +36,17 @@ returns c =
     list-length-refused (a .codes) (a .n) (a .list .now) (c .before .before .length-verdict .ensures)
     (c .enum-told2 .given .1)
 
+fitting-requires : tie.Need-fitting-requires Inv-loop μ-loop
+fitting-requires c κs = omega arith
+
 loop-holds : tie.Need-loop-holds Inv-loop μ-loop
 loop-holds c =
-    let a = c .before .before .before .before .args in (
-      omega arith,
-      events-start (a .codes) (a .n) (a .list .now) (c .before .before .length-verdict .ensures)
-          (c .enum-told .given .1),
+    let d = c .before in
+    let a = d .before .before .before .before .args in
+    let known = c .fitting .ensures in (
+      known .0,
+      events-from (a .codes) (a .n) (a .list .now) (d .before .before .length-verdict .ensures) (c .fitting .result)
+          (known .0) (known .1) (d .enum-told .given .1),
     )
 
 mul-fits : tie.Need-mul-fits Inv-loop μ-loop
@@ -53,7 +58,7 @@ fits-requires c κs = omega arith
 returns-2 : tie.Need-returns-2 Inv-loop μ-loop
 returns-2 c =
     let l = c .before .before .before .loop in
-    let a = c .before .before .before .before .before .before .before .before .args in
+    let a = c .before .before .before .before .before .before .before .before .before .args in
     let row = eventTest (a .codes) (a .n) (a .list .now) in
     let event = test-refused (refusal.Event (l .k)) (c .before .fits2 .ensures) (not-true _ (c .if1 .taken)) in
     sym (first-found row (l .k) _ (omega arith) event) ∙ l .inv .1
@@ -67,7 +72,7 @@ loop-less c = omega arith
 loop-again : tie.Need-loop-again Inv-loop μ-loop
 loop-again c =
     let l = c .before .before .before .loop in
-    let a = c .before .before .before .before .before .before .before .before .args in
+    let a = c .before .before .before .before .before .before .before .before .before .args in
     let row = eventTest (a .codes) (a .n) (a .list .now) in
     let event = test-fine (refusal.Event (l .k)) (c .before .fits2 .ensures) (not-false _ (c .if1 .left)) in
     (omega arith, sym (first-on row (l .k) _ (omega arith) event) ∙ l .inv .1)
@@ -75,9 +80,9 @@ loop-again c =
 returns-3 : tie.Need-returns-3 Inv-loop μ-loop
 returns-3 c =
     let l = c .before .loop in
-    let a = c .before .before .before .before .before .before .args in
+    let a = c .before .before .before .before .before .before .before .args in
     let row = eventTest (a .codes) (a .n) (a .list .now) in
-    c .before .before .enum-told .given .1 ∙ sym (first-end row (l .k) _ (omega arith)) ∙ l .inv .1
+    c .before .before .before .enum-told .given .1 ∙ sym (first-end row (l .k) _ (omega arith)) ∙ l .inv .1
 
 pub list-verdict-spec : {M : Type 1} → statement M
 list-verdict-spec =
@@ -90,6 +95,7 @@ list-verdict-spec =
     enum-told
     enum-told-2
     returns
+    fitting-requires
     loop-holds
     mul-fits
     fits-requires

@@ -14,7 +14,7 @@ use Rattle.blocks.proofs.First.{first-on, first-found, first-end}
 use Rattle.blocks.proofs.Blocks.{slotTest}
 use Rattle.blocks.proofs.Apart.{refused-is, done-fine, done-events}
 use Rattle.blocks.proofs.Ways.{head-refused, head-count, used-refused, unused-refused, slots-fine}
-use Rattle.blocks.proofs.Ways.{test-refused, test-fine, slots-start, tape-length-refused, blocks-start}
+use Rattle.blocks.proofs.Ways.{test-refused, test-fine, slots-from, tape-length-refused, blocks-start}
 use Rattle.blocks.proofs.verdict_of.Statement.{statement}
 use Rattle.blocks.proofs.verdict_of.Tie as tie
 
@@ -96,26 +96,31 @@ mul-slots c = omega arith
 add-slots : tie.Need-add-slots Inv-loop μ-loop Inv-blocks2 μ-blocks2
 add-slots c = omega arith
 
+fitting-requires : tie.Need-fitting-requires Inv-loop μ-loop Inv-blocks2 μ-blocks2
+fitting-requires c κs = omega (arith, few c)
+
 loop-holds : tie.Need-loop-holds Inv-loop μ-loop Inv-blocks2 μ-blocks2
 loop-holds c =
-    let a = c .before .before .before .before .before .before .before .before .before .before .args in
-    let o = c .before .before .before .before .before .blocks2 in
-    (omega arith, o .inv .1, slots-start (a .codes) (a .n) (a .tape .now) (o .b) (counts c))
+    let k = c .before in
+    let a = k .before .before .before .before .before .before .before .before .before .before .args in
+    let o = k .before .before .before .before .before .blocks2 in
+    let known = c .fitting .ensures in
+    (known .0, o .inv .1, slots-from (a .codes) (a .n) (a .tape .now) (o .b) (counts k) (known .0) (known .1))
 
 mul-fits : tie.Need-mul-fits Inv-loop μ-loop Inv-blocks2 μ-blocks2
-mul-fits c = omega (arith, few (c .before .before))
+mul-fits c = omega (arith, few (c .before .before .before))
 
 add-fits : tie.Need-add-fits Inv-loop μ-loop Inv-blocks2 μ-blocks2
-add-fits c = omega (arith, few (c .before .before))
+add-fits c = omega (arith, few (c .before .before .before))
 
 fits-requires : tie.Need-fits-requires Inv-loop μ-loop Inv-blocks2 μ-blocks2
-fits-requires c κs = omega (arith, few (c .before .before))
+fits-requires c κs = omega (arith, few (c .before .before .before))
 
 mul-t19 : tie.Need-mul-t19 Inv-loop μ-loop Inv-blocks2 μ-blocks2
-mul-t19 c = omega (arith, few (c .before .before .before .before))
+mul-t19 c = omega (arith, few (c .before .before .before .before .before))
 
 add-t20 : tie.Need-add-t20 Inv-loop μ-loop Inv-blocks2 μ-blocks2
-add-t20 c = omega (arith, few (c .before .before .before .before))
+add-t20 c = omega (arith, few (c .before .before .before .before .before))
 
 add-j : tie.Need-add-j Inv-loop μ-loop Inv-blocks2 μ-blocks2
 add-j c = omega arith
@@ -125,7 +130,7 @@ loop-less c = omega arith
 
 loop-again : tie.Need-loop-again Inv-loop μ-loop Inv-blocks2 μ-blocks2
 loop-again c =
-    let k = c .before .before .before .before in
+    let k = c .before .before .before .before .before in
     let a = k .before .before .before .before .before .before .before .before .before .before .args in
     let o = k .before .before .before .before .before .blocks2 in
     let l = c .before .before .before .loop in
@@ -135,19 +140,19 @@ loop-again c =
     (omega arith, l .inv .1, sym (first-on row (l .j) _ (omega arith) slot) ∙ l .inv .2)
 
 mul-is-clear : tie.Need-mul-is-clear Inv-loop μ-loop Inv-blocks2 μ-blocks2
-mul-is-clear c = omega (arith, few (c .before .before))
+mul-is-clear c = omega (arith, few (c .before .before .before))
 
 add-is-clear : tie.Need-add-is-clear Inv-loop μ-loop Inv-blocks2 μ-blocks2
-add-is-clear c = omega (arith, few (c .before .before))
+add-is-clear c = omega (arith, few (c .before .before .before))
 
 sub-is-clear : tie.Need-sub-is-clear Inv-loop μ-loop Inv-blocks2 μ-blocks2
-sub-is-clear c = omega (arith, few (c .before .before))
+sub-is-clear c = omega (arith, few (c .before .before .before))
 
 mul-is-clear-2 : tie.Need-mul-is-clear-2 Inv-loop μ-loop Inv-blocks2 μ-blocks2
-mul-is-clear-2 c = omega (arith, few (c .before .before))
+mul-is-clear-2 c = omega (arith, few (c .before .before .before))
 
 is-clear-requires : tie.Need-is-clear-requires Inv-loop μ-loop Inv-blocks2 μ-blocks2
-is-clear-requires c κs = omega (arith, few (c .before .before))
+is-clear-requires c κs = omega (arith, few (c .before .before .before))
 
 add-b : tie.Need-add-b Inv-loop μ-loop Inv-blocks2 μ-blocks2
 add-b c = omega arith
@@ -157,7 +162,7 @@ blocks2-less c = omega arith
 
 blocks2-again : tie.Need-blocks2-again Inv-loop μ-loop Inv-blocks2 μ-blocks2
 blocks2-again c =
-    let k = c .before .before .before .before in
+    let k = c .before .before .before .before .before in
     let a = k .before .before .before .before .before .before .before .before .before .before .args in
     let o = k .before .before .before .before .before .blocks2 in
     let l = c .before .before .before .loop in
@@ -194,7 +199,7 @@ returns-4 c =
 
 returns-5 : tie.Need-returns-5 Inv-loop μ-loop Inv-blocks2 μ-blocks2
 returns-5 c =
-    let k = c .before .before .before .before in
+    let k = c .before .before .before .before .before in
     let a = k .before .before .before .before .before .before .before .before .before .before .args in
     let o = k .before .before .before .before .before .blocks2 in
     let l = c .before .before .before .loop in
@@ -208,7 +213,7 @@ returns-5 c =
 
 returns-6 : tie.Need-returns-6 Inv-loop μ-loop Inv-blocks2 μ-blocks2
 returns-6 c =
-    let k = c .before .before .before .before in
+    let k = c .before .before .before .before .before in
     let a = k .before .before .before .before .before .before .before .before .before .before .args in
     let o = k .before .before .before .before .before .blocks2 in
     let l = c .before .before .before .loop in
@@ -239,6 +244,7 @@ verdict-of-spec =
     enum-told-3
     mul-slots
     add-slots
+    fitting-requires
     loop-holds
     mul-fits
     add-fits

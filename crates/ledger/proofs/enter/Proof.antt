@@ -1,7 +1,7 @@
--- An outcome below 2 enters nothing; past it the record has room, and is that of its number and message. Assumes
--- nothing.
+-- An outcome below 2 enters nothing, nor does a record without room; any other is that of its number and message.
+-- Assumes nothing.
 use native.Mathlib.Omega.{arith}
-use Rattle.ledger.proofs.Ways.{entered-none, entry-long, entered}
+use Rattle.ledger.proofs.Ways.{entered-none, entered-short, entered}
 use Rattle.ledger.proofs.enter.Statement.{statement}
 use Rattle.ledger.proofs.enter.Tie as tie
 
@@ -14,6 +14,16 @@ returns c =
     entered-none (a .number) (a .event .process) (a .outcome) (c .before .outcome-number .ensures) (a .ledger .now)
     (a .at) (c .if1 .taken)
 
+add-if2 : tie.Need-add-if2
+add-if2 c = omega arith
+
+returns-2 : tie.Need-returns-2
+returns-2 c =
+    let coded = c .before .before in
+    let a = coded .before .before .args in
+    entered-short (a .number) (a .event .process) (a .outcome) (coded .outcome-number .ensures) (c .before .if1 .left)
+    (a .ledger .now) (a .at) (omega arith)
+
 outcome-message-requires : tie.Need-outcome-message-requires
 outcome-message-requires c κs = tt
 
@@ -21,26 +31,20 @@ cast-put-record : tie.Need-cast-put-record
 cast-put-record c = omega arith
 
 put-record-requires : tie.Need-put-record-requires
-put-record-requires c κs =
-    let left = c .before .before .before in
-    let coded = left .before in
-    let a = coded .before .before .args in
-    let long =
-    entry-long (a .number) (a .event .process) (a .outcome) (coded .outcome-number .ensures) (left .if1 .left) in
-    omega arith
+put-record-requires c κs = omega arith
 
 same-length : tie.Need-same-length
 same-length c = omega arith
 
-returns-2 : tie.Need-returns-2
-returns-2 c =
+returns-3 : tie.Need-returns-3
+returns-3 c =
     let put = c .before .before in
     let said = put .before .before .before in
-    let left = said .before in
+    let left = said .before .before in
     let coded = left .before in
     let a = coded .before .before .args in
     entered (a .number) (a .event .process) (a .outcome) (coded .outcome-number .ensures) (left .if1 .left)
-    (a .ledger .now) (a .at) (said .outcome-message .ensures) (put .put-record .ensures)
+    (a .ledger .now) (a .at) (omega arith) (said .outcome-message .ensures) (put .put-record .ensures)
 
 pub enter-spec : {M : Type 1} → statement M
 enter-spec =
@@ -48,8 +52,10 @@ enter-spec =
     (tie.spec
     outcome-number-requires
     returns
+    add-if2
+    returns-2
     outcome-message-requires
     cast-put-record
     put-record-requires
     same-length
-    returns-2)
+    returns-3)

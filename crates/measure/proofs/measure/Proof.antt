@@ -1,10 +1,11 @@
 -- The copy is an accepted image of the same state, so its records are the image's. Assumes nothing.
 use mathlib.Core.Path.{ap, _∙_}
 use native.Mathlib.Omega.{arith}
+use Rattle.machine.specs.declared.Counts.{Counts}
 use Rattle.machine.specs.Image.{State}
 use Rattle.machine.specs.Answers.{runEvents}
 use Rattle.machine.proofs.Refusals.{image-fine}
-use Rattle.measure.proofs.Tallied.{recordsFrom}
+use Rattle.measure.proofs.Room.{recordsFrom}
 use Rattle.measure.proofs.Spare.{spare-state, spare-playable}
 use Rattle.measure.proofs.measure.Statement.{statement}
 use Rattle.measure.proofs.measure.Tie as tie
@@ -34,27 +35,32 @@ copy-requires c κs =
       omega (arith, c .before .wide .ensures .0, image .size .most),
     )
 
-slice-aggregate-tally : tie.Need-slice-aggregate-tally
-slice-aggregate-tally c = omega arith
+slice-aggregate-play : tie.Need-slice-aggregate-play
+slice-aggregate-play c = omega arith
 
-tally-requires : tie.Need-tally-requires
-tally-requires c κs =
-    let read = c .before .before .before .before in
+slice-aggregate-play-2 : tie.Need-slice-aggregate-play-2
+slice-aggregate-play-2 c = omega arith
+
+play-requires : tie.Need-play-requires
+play-requires c κs =
+    let copied = c .before .before .before in
+    let read = copied .before .before in
     let start = read .before .before .before .before in
     let s = start .args .image .now in
     let image = image-fine s (start .pre .image-fine) in
     spare-playable s (start .pre .image-fine)
     (λ k. omega (arith, read .before .before .before .shared-slice-known .given k))
-    _ (omega (arith, image .size .most)) (read .wide .ensures .0) (c .before .before .copy .ensures) (start .pre)
+    _ (omega (arith, image .size .most)) (read .wide .ensures .0) (copied .copy .ensures) (start .pre)
 
 returns : tie.Need-returns
 returns c =
-    let copied = c .before .before .before .before in
+    let played = c .before .before in
+    let copied = played .before .before .before .before in
     let read = copied .before .before in
     let start = read .before .before .before .before in
     let s = start .args .image .now in
     let image = image-fine s (start .pre .image-fine) in
-    c .before .tally .ensures
+    ap (λ (counts : Counts). counts .records) (played .play .ensures .0)
     ∙ ap (λ (st : State). recordsFrom st (runEvents (start .args .tape .now)))
     (spare-state s (start .pre .image-fine)
     (λ k. omega (arith, read .before .before .before .shared-slice-known .given k))
@@ -70,6 +76,7 @@ measure-spec =
     add-length
     slice-aggregate-copy
     copy-requires
-    slice-aggregate-tally
-    tally-requires
+    slice-aggregate-play
+    slice-aggregate-play-2
+    play-requires
     returns)

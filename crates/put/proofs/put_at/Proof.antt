@@ -1,15 +1,15 @@
 -- Each arm of the decision is that arm of the rule, and the stages that no arm names do no more. Assumes nothing.
-use mathlib.Core.Logic.{⊎-elim}
+use mathlib.Core.Logic.{⊎-elim, inl, inr}
 use native.Mathlib.Omega.{arith}
-use Rattle.put.proofs.Stages.{at-low, at-six, at-two, at-seven, at-five, at-ten, at-else}
+use Rattle.put.proofs.Stages.{at-low, at-six, at-wait, at-five, at-ten, at-else}
 use Rattle.put.proofs.put_at.Statement.{statement}
 use Rattle.put.proofs.put_at.Tie as tie
 
+add-wait : tie.Need-add-wait
+add-wait c = ⊎-elim (λ two. omega (arith, two)) (λ seven. omega (arith, seven)) (c .match .keys2)
+
 wait-requires : tie.Need-wait-requires
 wait-requires c κs = c .before .pre
-
-wait-requires-2 : tie.Need-wait-requires-2
-wait-requires-2 c κs = c .before .pre
 
 clear-requires : tie.Need-clear-requires
 clear-requires c κs = c .before .pre
@@ -33,35 +33,34 @@ stroll-requires : tie.Need-stroll-requires
 stroll-requires c κs = tt
 
 returns : tie.Need-returns
-returns c = at-two (c .before .before .args .r) (c .wait .ensures) (c .before .match .keys2)
+returns c = at-wait (c .before .before .args .r) (c .before .before .args .r .process .stage) (c .wait .ensures) (c .before .match .keys2)
 
 returns-2 : tie.Need-returns-2
-returns-2 c = at-seven (c .before .before .args .r) (c .wait2 .ensures) (c .before .match .keys3)
+returns-2 c =
+    at-five (c .before .before .before .before .args .r) (c .before .before .clear .ensures)
+    (c .before .forward .ensures) (c .end-put .ensures) (c .before .before .before .match .keys3)
 
 returns-3 : tie.Need-returns-3
 returns-3 c =
-    at-five (c .before .before .before .before .args .r) (c .before .before .clear .ensures)
-    (c .before .forward .ensures) (c .end-put .ensures) (c .before .before .before .match .keys4)
+    at-ten (c .before .before .before .before .args .r) (c .before .before .clear2 .ensures)
+    (c .before .forward2 .ensures) (c .ends .ensures) (c .before .before .before .match .keys4)
 
 returns-4 : tie.Need-returns-4
 returns-4 c =
-    at-ten (c .before .before .before .before .args .r) (c .before .before .clear2 .ensures)
-    (c .before .forward2 .ensures) (c .ends .ensures) (c .before .before .before .match .keys5)
+    let r = c .before .before .before .args .r in
+    let no = c .before .before .match .rest .0 .0 .1 in
+    at-else r (r .process .stage) (omega arith) (omega arith) (λ two. no (inl two)) (omega arith) (omega arith)
+    (λ seven. no (inr seven)) (omega arith)
 
 returns-5 : tie.Need-returns-5
 returns-5 c =
     let r = c .before .before .before .args .r in
-    at-else r (r .process .stage) (omega arith) (omega arith) (omega arith) (omega arith) (omega arith) (omega arith)
-    (omega arith)
+    let no = c .before .before .match .rest .0 .0 .1 in
+    at-else r (r .process .stage) (omega arith) (omega arith) (λ two. no (inl two)) (omega arith) (omega arith)
+    (λ seven. no (inr seven)) (omega arith)
 
 returns-6 : tie.Need-returns-6
 returns-6 c =
-    let r = c .before .before .before .args .r in
-    at-else r (r .process .stage) (omega arith) (omega arith) (omega arith) (omega arith) (omega arith) (omega arith)
-    (omega arith)
-
-returns-7 : tie.Need-returns-7
-returns-7 c =
     let r = c .before .before .args .r in
     ⊎-elim (λ k. at-six r (c .stroll .ensures) (k .keys1))
     (λ w. at-low r (r .process .stage) (w .1 .taken) (c .stroll .ensures)) (c .before .match .came)
@@ -70,8 +69,8 @@ pub put-at-spec : {M : Type 1} → statement M
 put-at-spec =
     tie.close
     (tie.spec
+    add-wait
     wait-requires
-    wait-requires-2
     clear-requires
     forward-requires
     end-put-requires
@@ -84,5 +83,4 @@ put-at-spec =
     returns-3
     returns-4
     returns-5
-    returns-6
-    returns-7)
+    returns-6)

@@ -94,13 +94,8 @@ play-requires c κs =
     let t = c .before .before .before .before .before .before .before .before in
     let i = t .before .before .before .before in
     let a = i .before .before .before .before .before .args in
-    let some = c .before .before .before .before .before .before .counted .given .1 in
-    let enough = not-false _ (c .before .before .if1 .left) in (
-      playable (a .image .now) (a .tape .now) (a .ledger .now) (i .of .ensures) (t .before .before .checked .given .1)
-          (t .of2 .ensures) some,
-      has-room (a .image .now) (a .tape .now) (a .ledger .now) (i .of .ensures) (t .before .before .checked .given .1)
-          (t .of2 .ensures) some (c .before .before .before .has-room .ensures) enough,
-    )
+    playable (a .image .now) (a .tape .now) (a .ledger .now) (i .of .ensures) (t .before .before .checked .given .1)
+    (t .of2 .ensures) (c .before .before .before .before .before .before .counted .given .1)
 
 same-length-6 : tie.Need-same-length-6
 same-length-6 c = omega arith
@@ -115,9 +110,13 @@ returns-6 c =
     let t = room .before .before .before .before .before .before in
     let i = t .before .before .before .before in
     let a = i .before .before .before .before .before .args in
+    let some = room .before .before .before .before .counted .given .1 in
+    let enough = not-false _ (room .if1 .left) in
+    let fits = has-room (a .image .now) (a .tape .now) (a .ledger .now) (i .of .ensures)
+    (t .before .before .checked .given .1) (t .of2 .ensures) some (room .before .has-room .ensures) enough in
     run-done (a .image .now) (a .tape .now) (a .ledger .now) (i .of .ensures) (t .before .before .checked .given .1)
-    (t .of2 .ensures) (room .before .before .before .before .counted .given .1) (room .before .has-room .ensures)
-    (not-false _ (room .if1 .left)) (p .play .ensures .0) (p .play .ensures .1 .0) (p .play .ensures .1 .1)
+    (t .of2 .ensures) some (room .before .has-room .ensures) enough (p .play .ensures .0) (p .play .ensures .1 .0)
+    (p .play .ensures .1 .1 fits)
 
 pub run-spec : {M : Type 1} → statement M
 run-spec =

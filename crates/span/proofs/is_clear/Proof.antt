@@ -1,34 +1,29 @@
--- What is left to test from the i-th byte on decides for all, since those before it are zero. Assumes nothing.
+-- What is or-ed of the bytes passed, and the bytes that are left, decide together for all. Assumes nothing.
 use Prim.Native.Nat.{_+_, _-_, _≤_}
-use mathlib.Core.Path.{_≡_, sym, ap₂, _∙_}
+use mathlib.Core.Path.{_≡_, sym, ap, ap₂, _∙_}
+use mathlib.Core.Bool.{Bool, _&&_, and-true}
 use native.Mathlib.Omega.{arith}
-use lib.ListN.{getD}
+use lib.Dec.{eqb}
 use Rattle.machine.specs.Bytes.{zeros}
-use Rattle.span.proofs.Laws.{zeros-not, zeros-on, zeros-end}
+use Rattle.span.proofs.Laws.{zeros-on, zeros-end}
 use Rattle.span.proofs.is_clear.Statement.{statement}
 use Rattle.span.proofs.is_clear.Tie as tie
 
 abbrev Inv-loop : tie.InvT-loop
-Inv-loop bytes at count i₀ i =
-    (i ≤ count) × (zeros bytes (at + i) (count - i) ≡ zeros bytes at count)
+Inv-loop bytes at count any₀ i₀ any i =
+    (i ≤ count) × (eqb any 0 && zeros bytes (at + i) (count - i) ≡ zeros bytes at count)
 
 abbrev μ-loop : tie.MeasureT-loop
-μ-loop bytes at count i₀ i = count - i
+μ-loop bytes at count any₀ i₀ any i = count - i
 
 loop-holds : tie.Need-loop-holds Inv-loop μ-loop
 loop-holds c = (omega arith, ap₂ (zeros (c .args .bytes .now)) (omega arith) (omega arith))
 
-add-if1 : tie.Need-add-if1 Inv-loop μ-loop
-add-if1 c = omega arith
+add-any : tie.Need-add-any Inv-loop μ-loop
+add-any c = omega arith
 
-shared-slice-read-if1 : tie.Need-shared-slice-read-if1 Inv-loop μ-loop
-shared-slice-read-if1 c = omega arith
-
-returns : tie.Need-returns Inv-loop μ-loop
-returns c =
-    let l = c .before .before .before .loop in
-    let a = c .before .before .before .before .args in
-    sym (zeros-not (a .bytes .now) (a .at) (l .i) (a .count) (omega arith) (omega arith)) ∙ l .inv .1
+shared-slice-read-any : tie.Need-shared-slice-read-any Inv-loop μ-loop
+shared-slice-read-any c = omega arith
 
 add-i : tie.Need-add-i Inv-loop μ-loop
 add-i c = omega arith
@@ -38,16 +33,16 @@ loop-less c = omega arith
 
 loop-again : tie.Need-loop-again Inv-loop μ-loop
 loop-again c =
-    let l = c .before .before .before .loop in
-    let a = c .before .before .before .before .args in
-    let is : getD (a .bytes .now) (a .at + l .i) 0 ≡ 0 = omega arith in
-    (omega arith, sym (zeros-on (a .bytes .now) (a .at) (l .i) (a .count) (omega arith) is) ∙ l .inv .1)
+    let l = c .before .before .loop in
+    let a = c .before .before .before .args in
+    (omega arith, sym (zeros-on (a .bytes .now) (a .at) (l .i) (a .count) (omega arith) (l .any)) ∙ l .inv .1)
 
-returns-2 : tie.Need-returns-2 Inv-loop μ-loop
-returns-2 c =
+returns : tie.Need-returns Inv-loop μ-loop
+returns c =
     let l = c .before .loop in
     let a = c .before .before .args in
-    sym (zeros-end (a .bytes .now) (a .at) (l .i) (a .count) (omega arith)) ∙ l .inv .1
+    let rest = zeros-end (a .bytes .now) (a .at) (l .i) (a .count) (omega arith) in
+    sym (and-true (eqb (l .any) 0)) ∙ ap (λ (t : Bool). eqb (l .any) 0 && t) (sym rest) ∙ l .inv .1
 
 pub is-clear-spec : {M : Type 1} → statement M
 is-clear-spec =
@@ -56,10 +51,9 @@ is-clear-spec =
     Inv-loop
     μ-loop
     loop-holds
-    add-if1
-    shared-slice-read-if1
-    returns
+    add-any
+    shared-slice-read-any
     add-i
     loop-less
     loop-again
-    returns-2)
+    returns)

@@ -1,86 +1,126 @@
--- An idle event leaves a sound image as it is; any other is the rule's reaction at its process, placed. Assumes
--- nothing.
+-- An event that isn't possible is idle; one that needs no envelope is done quickly; what the quick way leaves, the whole
+-- reaction does. Assumes nothing.
+use mathlib.Core.Path.{sym}
 use native.Mathlib.Omega.{arith}
-use Rattle.event.specs.Parsed.{ruled}
-use Rattle.machine.proofs.Refusals.{image-fine}
-use Rattle.step.proofs.Ways.{ready, performed-idle, performed}
+use Rattle.step.proofs.Ways.{few, within, may-test, not-possible, may-be-quick, quickly-done, quickly-left, after-left}
 use Rattle.step.proofs.perform.Statement.{statement}
 use Rattle.step.proofs.perform.Tie as tie
 
-slice-read-wide : tie.Need-slice-read-wide
-slice-read-wide c =
+mul-at : tie.Need-mul-at
+mul-at c =
     let start = c .before .before in
-    let image = image-fine (start .args .image .now) (start .pre .0) in
-    omega (arith, image .header)
+    let s = start .args .image .now in
+    let i = start .args .event .process in
+    omega (arith, few s i (start .pre .0) (start .pre .1), within s i (start .pre .0) (start .pre .1))
 
-wide-requires : tie.Need-wide-requires
-wide-requires c κs = tt
+add-at : tie.Need-add-at
+add-at c =
+    let start = c .before .before in
+    let s = start .args .image .now in
+    let i = start .args .event .process in
+    omega (arith, few s i (start .pre .0) (start .pre .1), within s i (start .pre .0) (start .pre .1))
 
-envelope-at-requires : tie.Need-envelope-at-requires
-envelope-at-requires c κs =
+slice-read-is-possible : tie.Need-slice-read-is-possible
+slice-read-is-possible c =
+    let start = c .before .before .before in
+    let s = start .args .image .now in
+    let i = start .args .event .process in
+    omega (arith, few s i (start .pre .0) (start .pre .1), within s i (start .pre .0) (start .pre .1))
+
+add-is-possible : tie.Need-add-is-possible
+add-is-possible c =
+    let start = c .before .before .before in
+    let s = start .args .image .now in
+    let i = start .args .event .process in
+    omega (arith, few s i (start .pre .0) (start .pre .1), within s i (start .pre .0) (start .pre .1))
+
+slice-read-is-possible-2 : tie.Need-slice-read-is-possible-2
+slice-read-is-possible-2 c =
     let start = c .before .before .before .before in
-    let image = image-fine (start .args .image .now) (start .pre .0) in
-    omega (arith, image .header)
+    let s = start .args .image .now in
+    let i = start .args .event .process in
+    omega (arith, few s i (start .pre .0) (start .pre .1), within s i (start .pre .0) (start .pre .1))
 
-process-at-requires : tie.Need-process-at-requires
-process-at-requires c κs =
-    let start = c .before .before .before .before .before .before in
-    let image = image-fine (start .args .image .now) (start .pre .0) in
-    omega (arith, image .size .most, image .room, start .pre .1)
+add-is-possible-2 : tie.Need-add-is-possible-2
+add-is-possible-2 c =
+    let start = c .before .before .before .before in
+    let s = start .args .image .now in
+    let i = start .args .event .process in
+    omega (arith, few s i (start .pre .0) (start .pre .1), within s i (start .pre .0) (start .pre .1))
 
-apply-requires : tie.Need-apply-requires
-apply-requires c κs =
+slice-read-is-possible-3 : tie.Need-slice-read-is-possible-3
+slice-read-is-possible-3 c =
+    let start = c .before .before .before .before .before in
+    let s = start .args .image .now in
+    let i = start .args .event .process in
+    omega (arith, few s i (start .pre .0) (start .pre .1), within s i (start .pre .0) (start .pre .1))
+
+is-possible-requires : tie.Need-is-possible-requires
+is-possible-requires c κs =
+    let start = c .before .before .before .before .before in
+    may-test (start .args .image .now) (start .args .event) (start .pre .0) (start .pre .1) (start .pre .2)
+
+returns : tie.Need-returns
+returns c =
     let start = c .before .before .before .before .before .before .before in
-    ready (start .args .image .now) (ruled (start .args .event)) (start .pre .0) (start .pre .1)
-    (c .before .before .envelope-at .ensures) (c .process-at .ensures)
+    not-possible (start .args .image .now) (start .args .event) (start .pre .0) (start .pre .1)
+    (c .before .is-possible .ensures) (λ k. omega (arith, c .before .before .before .before .before .before .slice-known .given k)) (c .if1 .taken)
 
-is-idle-requires : tie.Need-is-idle-requires
-is-idle-requires c κs = tt
+quickly-requires : tie.Need-quickly-requires
+quickly-requires c κs =
+    let start = c .before .before .before .before .before .before .before .before in
+    may-be-quick (start .args .image .now) (start .args .event) (start .pre .0) (start .pre .1)
+    (c .before .before .is-possible .ensures) (start .pre .2) (c .before .if1 .left)
 
 same-length : tie.Need-same-length
 same-length c = omega arith
 
-returns : tie.Need-returns
-returns c =
-    let start = c .before .before .before .before .before .before .before .before .before .before in
-    let known = c .before .before .before .before .before .before .before .before .before in
-    performed-idle (start .args .image .now) (ruled (start .args .event)) (start .pre .0) (start .pre .1)
-    (c .before .before .before .before .before .envelope-at .ensures) (c .before .before .before .process-at .ensures)
-    (λ k. omega (arith, known .slice-known .given k)) (c .before .before .apply .ensures) (c .before .is-idle .ensures)
-    (c .if1 .taken)
+returns-2 : tie.Need-returns-2
+returns-2 c =
+    let quick = c .before .before .before in
+    let test = quick .before .before .before in
+    let start = c .before .before .before .before .before .before .before .before .before .before .before .before in
+    quickly-done (start .args .image .now) (start .args .event) (start .pre .0) (start .pre .1)
+    (test .is-possible .ensures) (quick .quickly .ensures) (c .if2 .taken)
 
-place-requires : tie.Need-place-requires
-place-requires c κs =
-    let start = c .before .before .before .before .before .before .before .before .before .before .before in
-    let image = image-fine (start .args .image .now) (start .pre .0) in
-    let n = c .before .before .before .before .before .before .before .before .wide .ensures .0 in
-    omega (arith, n, image .size .most, image .room, start .pre .1)
+enact-requires : tie.Need-enact-requires
+enact-requires c κs =
+    let quick = c .before .before .before .before in
+    let test = quick .before .before .before in
+    let start = c .before .before .before .before .before .before .before .before .before .before .before .before .before in
+    let same = quickly-left (start .args .image .now) (start .args .event) (start .pre .0) (start .pre .1)
+    (test .is-possible .ensures) (quick .quickly .ensures) (c .before .if2 .left) in
+    rw same (start .pre .0, start .pre .1)
 
 same-length-2 : tie.Need-same-length-2
 same-length-2 c = omega arith
 
-returns-2 : tie.Need-returns-2
-returns-2 c =
+returns-3 : tie.Need-returns-3
+returns-3 c =
     let done = c .before .before in
-    let applied = done .before .before .before .before in
-    let start = applied .before .before .before .before .before .before .before .before in
-    performed (start .args .image .now) (ruled (start .args .event)) (start .pre .0) (start .pre .1)
-    (applied .before .before .before .envelope-at .ensures) (applied .before .process-at .ensures)
-    (λ k. omega (arith, applied .before .before .before .before .before .before .before .slice-known .given k))
-    (applied .apply .ensures) (applied .before .before .before .before .before .wide .ensures .0) (done .place .ensures)
+    let quick = c .before .before .before .before .before .before .before in
+    let test = quick .before .before .before in
+    let start = c .before .before .before .before .before .before .before .before .before .before .before .before .before .before .before .before in
+    let same = quickly-left (start .args .image .now) (start .args .event) (start .pre .0) (start .pre .1)
+    (test .is-possible .ensures) (quick .quickly .ensures) (done .before .before .if2 .left) in
+    after-left (start .args .event) same (done .enact .ensures .0) (done .enact .ensures .1)
 
 pub perform-spec : {M : Type 1} → statement M
 perform-spec =
     tie.close
     (tie.spec
-    slice-read-wide
-    wide-requires
-    envelope-at-requires
-    process-at-requires
-    apply-requires
-    is-idle-requires
-    same-length
+    mul-at
+    add-at
+    slice-read-is-possible
+    add-is-possible
+    slice-read-is-possible-2
+    add-is-possible-2
+    slice-read-is-possible-3
+    is-possible-requires
     returns
-    place-requires
+    quickly-requires
+    same-length
+    returns-2
+    enact-requires
     same-length-2
-    returns-2)
+    returns-3)

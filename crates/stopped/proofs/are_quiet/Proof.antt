@@ -1,26 +1,33 @@
--- After i turns the answer so far is what the rule says of the first i processes. Assumes nothing.
+-- After i turns nothing waits exactly when the rule says so of the first i processes. Assumes nothing.
 use Prim.Native.Nat.{_≤_, _-_}
 use mathlib.Core.Path.{_≡_}
 use native.Mathlib.Omega.{arith}
-use Rattle.stopped.proofs.Ways.{quiet-none, quiet-more}
+use Rattle.machine.specs.Bytes.{Bytes}
+use Rattle.stopped.proofs.Words.{noneWaits, quiet-none, quiet-more}
 use Rattle.stopped.specs.Stopped.{QuietAre}
 use Rattle.stopped.proofs.are_quiet.Statement.{statement}
 use Rattle.stopped.proofs.are_quiet.Tie as tie
 
 abbrev Inv-loop : tie.InvT-loop
-Inv-loop image n quiet₀ i₀ quiet i = (i ≤ n) × QuietAre image i quiet
+Inv-loop image n any₀ stages₀ i₀ any stages i = (i ≤ n) × QuietAre image i (noneWaits any stages)
 
 abbrev μ-loop : tie.MeasureT-loop
-μ-loop image n quiet₀ i₀ quiet i = n - i
+μ-loop image n any₀ stages₀ i₀ any stages i = n - i
 
 loop-holds : tie.Need-loop-holds Inv-loop μ-loop
 loop-holds c = (omega arith, quiet-none (c .before .args .image .now))
 
-process-at-requires : tie.Need-process-at-requires Inv-loop μ-loop
-process-at-requires c κs = omega arith
+mul-eight-at : tie.Need-mul-eight-at Inv-loop μ-loop
+mul-eight-at c = omega arith
 
-is-quiet-requires : tie.Need-is-quiet-requires Inv-loop μ-loop
-is-quiet-requires c κs = tt
+add-eight-at : tie.Need-add-eight-at Inv-loop μ-loop
+add-eight-at c = omega arith
+
+eight-at-requires : tie.Need-eight-at-requires Inv-loop μ-loop
+eight-at-requires c κs = omega arith
+
+mul-stages : tie.Need-mul-stages Inv-loop μ-loop
+mul-stages c = omega arith
 
 add-i : tie.Need-add-i Inv-loop μ-loop
 add-i c = omega arith
@@ -30,9 +37,13 @@ loop-less c = omega arith
 
 loop-again : tie.Need-loop-again Inv-loop μ-loop
 loop-again c =
-    let l = c .before .before .before .loop in
-    let a = c .before .before .before .before .before .args in
-    (omega arith, quiet-more (a .image .now) (l .i) (l .inv .1) (c .before .process-at .ensures) (c .is-quiet .ensures))
+    let l = c .before .before .loop in
+    let start = c .before .before .before .before in
+    let small : Bytes (start .args .image .now) =
+    λ k. omega (arith, c .before .before .before .shared-slice-known .given k) in
+    let next = quiet-more (start .args .image .now) small (start .args .n) (l .i) (l .any) (l .stages) (start .pre .2)
+    (omega arith) (l .inv .1) (c .eight-at .ensures) in
+    (omega arith, next)
 
 returns : tie.Need-returns Inv-loop μ-loop
 returns c =
@@ -48,8 +59,10 @@ are-quiet-spec =
     Inv-loop
     μ-loop
     loop-holds
-    process-at-requires
-    is-quiet-requires
+    mul-eight-at
+    add-eight-at
+    eight-at-requires
+    mul-stages
     add-i
     loop-less
     loop-again

@@ -4,7 +4,7 @@ use native.Mathlib.Omega.{arith}
 use Rattle.machine.proofs.Refusals.{SizeFits, image-under-16, image-too-few, image-too-many, image-short, image-whole}
 use Rattle.machine.specs.Image.{sizeIn}
 use Rattle.machine.specs.declared.Refusal.the-variants as refusal
-use Rattle.sound.proofs.Walked.{checked-refused, checked-done}
+use Rattle.sound.proofs.Ends.{checked-refused, checked-done}
 use Rattle.sound.proofs.Checked.of.Statement.{statement}
 use Rattle.sound.proofs.Checked.of.Tie as tie
 

@@ -1,57 +1,53 @@
--- Each field is the rule's own, computed from what the functions called ensure. Assumes nothing.
-use native.Mathlib.Omega.{arith}
+-- Each field is computed as the definition writes it. Assumes nothing.
 use Rattle.sound.specs.Walk.{walkedOn}
+use native.Mathlib.Omega.{arith}
 use Rattle.sound.proofs.Walk.on.Statement.{statement}
 use Rattle.sound.proofs.Walk.on.Tie as tie
 
-record-fits-requires : tie.Need-record-fits-requires
-record-fits-requires c κs = omega arith
+mul-demand : tie.Need-mul-demand
+mul-demand c = omega arith
 
-stage-fits-requires : tie.Need-stage-fits-requires
-stage-fits-requires c κs = omega arith
+add-demand : tie.Need-add-demand
+add-demand c = omega arith
 
-digit-requires : tie.Need-digit-requires
-digit-requires c κs = omega arith
+add-demand-2 : tie.Need-add-demand-2
+add-demand-2 c = omega arith
 
-add-t12 : tie.Need-add-t12
-add-t12 c = omega arith
+demand-requires : tie.Need-demand-requires
+demand-requires c κs = omega arith
 
-digit-requires-2 : tie.Need-digit-requires-2
-digit-requires-2 c κs = omega arith
+wrapping-add-u64-requires : tie.Need-wrapping-add-u64-requires
+wrapping-add-u64-requires c κs = omega arith
 
-add-t14 : tie.Need-add-t14
-add-t14 c = omega arith
+mul-t10 : tie.Need-mul-t10
+mul-t10 c = omega arith
 
-with-member-requires : tie.Need-with-member-requires
-with-member-requires c κs = omega arith
+add-t7 : tie.Need-add-t7
+add-t7 c = omega arith
 
-with-member-requires-2 : tie.Need-with-member-requires-2
-with-member-requires-2 c κs = omega arith
+mul-t12 : tie.Need-mul-t12
+mul-t12 c = omega arith
+
+add-t15 : tie.Need-add-t15
+add-t15 c = omega arith
 
 returns : tie.Need-returns
 unfolding walkedOn
 returns c =
-    let counted = c .before .before in
-    let staged = counted .before .before .before .before in
-    rw (
-      c .with-member2 .ensures,
-      c .before .with-member .ensures,
-      counted .digit2 .ensures .0,
-      counted .before .before .digit .ensures .0,
-      staged .stage-fits .ensures,
-      staged .before .before .record-fits .ensures,
-    )
+    let masked = c .before .before .before .before in
+    rw (c .before .before .wrapping-add-u64 .ensures, masked .demand .ensures)
 
 pub on-spec : {M : Type 1} → statement M
 on-spec =
     tie.close
     (tie.spec
-    record-fits-requires
-    stage-fits-requires
-    digit-requires
-    add-t12
-    digit-requires-2
-    add-t14
-    with-member-requires
-    with-member-requires-2
+    mul-demand
+    add-demand
+    add-demand-2
+    demand-requires
+    wrapping-add-u64-requires
+    mul-t10
+    add-t7
+    mul-t12
+    add-t15
     returns)

@@ -2,47 +2,36 @@
 use Prim.Native.Nat.{_≤_, _-_}
 use mathlib.Core.Path.{_≡_}
 use native.Mathlib.Omega.{arith}
-use Rattle.sound.proofs.Walked.{walk-none, walk-step, walk-bounded}
-use Rattle.sound.specs.Walk.{walkOf}
+use lib.Dec.{eqb}
+use Rattle.machine.specs.Bytes.{Bytes}
+use Rattle.sound.proofs.Walked.{walk-none, walk-step, set-below}
+use Rattle.sound.specs.Walk.{Walked}
 use Rattle.sound.proofs.Walk.over.Statement.{statement}
 use Rattle.sound.proofs.Walk.over.Tie as tie
 
 abbrev Inv-loop : tie.InvT-loop
-Inv-loop image full n walk₀ i₀ walk i = (i ≤ n) × (walk ≡ walkOf image full i)
+Inv-loop image status n walk₀ i₀ walk i = (i ≤ n) × Walked image (eqb status 1) i walk
 
 abbrev μ-loop : tie.MeasureT-loop
-μ-loop image full n walk₀ i₀ walk i = n - i
+μ-loop image status n walk₀ i₀ walk i = n - i
 
 loop-holds : tie.Need-loop-holds Inv-loop μ-loop
-loop-holds c = (omega arith, walk-none (c .before .args .image .now) (c .before .args .full))
+loop-holds c = (omega arith, walk-none (c .before .args .image .now) (eqb (c .before .args .status) 1))
 
-mul-at : tie.Need-mul-at Inv-loop μ-loop
-mul-at c = omega arith
+mul-eight-at : tie.Need-mul-eight-at Inv-loop μ-loop
+mul-eight-at c = omega arith
 
-add-at : tie.Need-add-at Inv-loop μ-loop
-add-at c = omega arith
+add-eight-at : tie.Need-add-eight-at Inv-loop μ-loop
+add-eight-at c = omega arith
 
-add-on : tie.Need-add-on Inv-loop μ-loop
-add-on c = omega arith
-
-shared-slice-read-on : tie.Need-shared-slice-read-on Inv-loop μ-loop
-shared-slice-read-on c = omega arith
-
-add-on-2 : tie.Need-add-on-2 Inv-loop μ-loop
-add-on-2 c = omega arith
-
-shared-slice-read-on-2 : tie.Need-shared-slice-read-on-2 Inv-loop μ-loop
-shared-slice-read-on-2 c = omega arith
-
-process-at-requires : tie.Need-process-at-requires Inv-loop μ-loop
-process-at-requires c κs = omega arith
+eight-at-requires : tie.Need-eight-at-requires Inv-loop μ-loop
+eight-at-requires c κs = omega arith
 
 on-requires : tie.Need-on-requires Inv-loop μ-loop
 on-requires c κs =
-    let l = c .before .before .before .before .loop in
-    let a = c .before .before .before .before .before .before .args in
-    let b = walk-bounded (a .image .now) (a .full) (l .i) (l .inv .1) in
-    (omega arith, b .places, b .full, b .empty)
+    let l = c .before .before .loop in
+    let so = l .inv .1 in
+    (omega arith, set-below (l .i) (omega arith) (so .full .below), set-below (l .i) (omega arith) (so .empty .below))
 
 add-i : tie.Need-add-i Inv-loop μ-loop
 add-i c = omega arith
@@ -52,10 +41,13 @@ loop-less c = omega arith
 
 loop-again : tie.Need-loop-again Inv-loop μ-loop
 loop-again c =
-    let l = c .before .before .before .before .before .loop in
-    let a = c .before .before .before .before .before .before .before .args in
-    let read = c .before .process-at .ensures in
-    (omega arith, walk-step (a .image .now) (a .full) (l .i) (l .inv .1) read (c .on .ensures))
+    let l = c .before .before .before .loop in
+    let a = c .before .before .before .before .before .args in
+    let small : Bytes (a .image .now) =
+    λ k. omega (arith, c .before .before .before .before .shared-slice-known .given k) in
+    let next = walk-step (a .image .now) small (a .status) (l .i) (omega arith) (omega arith) (l .inv .1)
+    (c .before .eight-at .ensures) (c .on .ensures) in
+    (omega arith, next)
 
 returns : tie.Need-returns Inv-loop μ-loop
 returns c =
@@ -71,13 +63,9 @@ over-spec =
     Inv-loop
     μ-loop
     loop-holds
-    mul-at
-    add-at
-    add-on
-    shared-slice-read-on
-    add-on-2
-    shared-slice-read-on-2
-    process-at-requires
+    mul-eight-at
+    add-eight-at
+    eight-at-requires
     on-requires
     add-i
     loop-less

@@ -1,0 +1,134 @@
+-- What is or-ed covers each event passed, and where it is small at the end all of them fit. Assumes nothing.
+use Prim.Native.Nat.{ℕ, _+_, _-_, _*_, _%_, _≤_, _<_}
+use mathlib.Core.Path.{_≡_}
+use mathlib.Core.Logic.{⊎-elim}
+use native.Mathlib.Omega.{arith}
+use Rattle.machine.specs.Bytes.{Bytes}
+use Rattle.blocks.proofs.Together.{product-small, Covers, covers-on, small-fits}
+use Rattle.blocks.proofs.fitting.Statement.{statement}
+use Rattle.blocks.proofs.fitting.Tie as tie
+
+abbrev Inv-loop : tie.InvT-loop
+Inv-loop bytes at count n codes limit gap any₀ mixed₀ k₀ any mixed k =
+    (k ≤ count) × ((i : ℕ) → i < k → Covers gap any mixed bytes (at + 8 * i))
+
+abbrev μ-loop : tie.MeasureT-loop
+μ-loop bytes at count n codes limit gap any₀ mixed₀ k₀ any mixed k = count - k
+
+-- the gap is what n lacks, if it lacks anything
+gap-small : (c : tie.Joined1 Inv-loop μ-loop) → c .if1 .gap ≤ 65280
+gap-small c = ⊎-elim (λ w. omega arith) (λ w. omega arith) (c .if1 .came)
+
+far : (c : tie.Joined1 Inv-loop μ-loop)
+    → 256 * c .before .wide .result ≤ c .before .before .before .args .n + c .if1 .gap
+far c = ⊎-elim (λ w. omega arith) (λ w. omega arith) (c .if1 .came)
+
+wide-requires : tie.Need-wide-requires Inv-loop μ-loop
+wide-requires c κs = tt
+
+mul-limit : tie.Need-mul-limit Inv-loop μ-loop
+mul-limit c = omega arith
+
+sub-gap : tie.Need-sub-gap Inv-loop μ-loop
+sub-gap c = omega arith
+
+loop-holds : tie.Need-loop-holds Inv-loop μ-loop
+loop-holds c = (omega arith, λ i h. absurd (omega arith))
+
+mul-number-at : tie.Need-mul-number-at Inv-loop μ-loop
+mul-number-at c = omega arith
+
+add-number-at : tie.Need-add-number-at Inv-loop μ-loop
+add-number-at c = omega arith
+
+number-at-requires : tie.Need-number-at-requires Inv-loop μ-loop
+number-at-requires c κs = omega arith
+
+cast-front : tie.Need-cast-front Inv-loop μ-loop
+cast-front c = omega arith
+
+mul-number-at-2 : tie.Need-mul-number-at-2 Inv-loop μ-loop
+mul-number-at-2 c = omega arith
+
+add-number-at-2 : tie.Need-add-number-at-2 Inv-loop μ-loop
+add-number-at-2 c = omega arith
+
+add-number-at-3 : tie.Need-add-number-at-3 Inv-loop μ-loop
+add-number-at-3 c = omega arith
+
+number-at-requires-2 : tie.Need-number-at-requires-2 Inv-loop μ-loop
+number-at-requires-2 c κs = omega arith
+
+cast-message : tie.Need-cast-message Inv-loop μ-loop
+cast-message c = omega arith
+
+sub-coded : tie.Need-sub-coded Inv-loop μ-loop
+sub-coded c = omega arith
+
+add-any : tie.Need-add-any Inv-loop μ-loop
+add-any c = omega (arith, gap-small (c .before .before .before .before .before))
+
+mul-mixed : tie.Need-mul-mixed Inv-loop μ-loop
+mul-mixed c =
+    let front = c .before .before .number-at .result in
+    let p = product-small (front - front % 256) (c .before .number-at2 .result) (omega arith) (omega arith) in
+    omega arith
+
+add-k : tie.Need-add-k Inv-loop μ-loop
+add-k c = omega arith
+
+loop-less : tie.Need-loop-less Inv-loop μ-loop
+loop-less c = omega arith
+
+loop-again : tie.Need-loop-again Inv-loop μ-loop
+loop-again c =
+    let l = c .before .before .before .before .loop in
+    let j = c .before .before .before .before .before in
+    let a = j .before .before .before .args in
+    let one = c .before .before .number-at .ensures in
+    let two = c .before .number-at2 .ensures in
+    (omega arith, covers-on (j .if1 .gap) (l .any) (l .mixed) (a .bytes .now) (a .at) (l .k) one two (l .inv .1))
+
+returns : tie.Need-returns Inv-loop μ-loop
+returns c =
+    let j = c .before .before .before in
+    let d = j .before .before in
+    let a = d .before .args in
+    let l = c .before .before .loop in
+    let limit : 256 * j .before .wide .result ≡ 256 * a .codes = omega (arith, j .before .wide .ensures .0) in
+    let bytes : Bytes (a .bytes .now) = λ k. omega (arith, d .shared-slice-known .given k) in
+    let each =
+    small-fits (a .n) (a .codes) (j .if1 .gap) (l .any) (l .mixed) (a .bytes .now) bytes (omega arith) limit (far j)
+    (c .if2 .taken) in
+    (omega arith, λ k h. each (a .at + 8 * k) (l .inv .1 k (omega arith)))
+
+returns-2 : tie.Need-returns-2 Inv-loop μ-loop
+returns-2 c = (omega arith, λ k h. absurd (omega arith))
+
+pub fitting-spec : {M : Type 1} → statement M
+fitting-spec =
+    tie.close
+    (tie.spec
+    Inv-loop
+    μ-loop
+    wide-requires
+    mul-limit
+    sub-gap
+    loop-holds
+    mul-number-at
+    add-number-at
+    number-at-requires
+    cast-front
+    mul-number-at-2
+    add-number-at-2
+    add-number-at-3
+    number-at-requires-2
+    cast-message
+    sub-coded
+    add-any
+    mul-mixed
+    add-k
+    loop-less
+    loop-again
+    returns
+    returns-2)

@@ -1,0 +1,12 @@
+-- By the status. Assumes nothing.
+use Rattle.hold.proofs.is_marked.Statement.{statement}
+use Rattle.hold.proofs.is_marked.Tie as tie
+
+returns : tie.Need-returns
+returns c = rw (c .if1 .taken)
+
+returns-2 : tie.Need-returns-2
+returns-2 c = rw (c .if1 .left)
+
+pub is-marked-spec : {M : Type 1} → statement M
+is-marked-spec = tie.close (tie.spec returns returns-2)

@@ -1,0 +1,3 @@
+-- What this crate's contracts cite beside the rules.
+pub mod Possible
+pub mod Quick

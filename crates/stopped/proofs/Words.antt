@@ -1,0 +1,242 @@
+-- The walk of the stopped call, by the records' words: nothing waits exactly when events 2 to 7 are idle. Assumes
+-- nothing.
+use Prim.Native.Nat.{ℕ, zero, suc, _+_, _*_, _/_, _%_, _≤_, _<_, min, max}
+use mathlib.Core.Path.{_≡_, refl, _∙_}
+use mathlib.Core.Bool.{Bool, true, false, not, _&&_, Bool·beq, and-true, false≢true}
+use mathlib.Core.List.{List}
+use native.Mathlib.Omega.{arith}
+use lib.ListN.{getD}
+use lib.Dec.{eqb}
+use lib.Arith.{bin-ind}
+use lib.Bits.{bitAnd, bitOr, and-step, or-step, and-mod, or-mod, and-shr, or-shr, and-zero-r}
+use borrow.Author.Tests.{eqb-true, eq-eqb}
+use Rattle.machine.specs.declared.Envelope.{Envelope}
+use Rattle.machine.specs.Bytes.{Bytes, bit, bitOf, number}
+use Rattle.machine.specs.Lists.{every, all}
+use Rattle.machine.specs.Image.{processIn, processesIn}
+use Rattle.machine.specs.Stages.{told}
+use Rattle.machine.specs.Sound.{recordsFit}
+use Rattle.machine.specs.Stopped.{quiet}
+use Rattle.machine.proofs.Lists.{and-first, and-second, every-at, all-more}
+use Rattle.machine.proofs.Sound.{record-facts}
+use Rattle.machine.proofs.Stopped.{quiet-nothing}
+use Rattle.machine.proofs.Walk.{processes-none, processes-more}
+use Rattle.sound.specs.Demands.{fromParts}
+use Rattle.sound.proofs.Masks.{two-parts}
+use Rattle.sound.proofs.Kept.{both}
+use Rattle.sound.proofs.Walked.{pairs, or-zero, word-is}
+use Rattle.sound.proofs.Whole.{same-test}
+use Rattle.stopped.specs.Stopped.{QuietAre}
+
+-- ---- a mask over several words
+
+-- on digits
+or-digit : (x y : ℕ) → x < 2 → y < 2 → bitOr x y ≡ max x y
+or-digit zero zero p q = refl
+or-digit zero (suc zero) p q = refl
+or-digit (suc zero) zero p q = refl
+or-digit (suc zero) (suc zero) p q = refl
+or-digit (suc (suc x)) y p q = absurd (omega arith)
+or-digit zero (suc (suc y)) p q = absurd (omega arith)
+or-digit (suc zero) (suc (suc y)) p q = absurd (omega arith)
+
+and-digit : (x y : ℕ) → x < 2 → y < 2 → bitAnd x y ≡ min x y
+and-digit zero zero p q = refl
+and-digit zero (suc zero) p q = refl
+and-digit (suc zero) zero p q = refl
+and-digit (suc zero) (suc zero) p q = refl
+and-digit (suc (suc x)) y p q = absurd (omega arith)
+and-digit zero (suc (suc y)) p q = absurd (omega arith)
+and-digit (suc zero) (suc (suc y)) p q = absurd (omega arith)
+
+min-max : (x y z : ℕ) → x < 2 → y < 2 → z < 2 → min (max x y) z ≡ max (min x z) (min y z)
+min-max zero zero zero p q r = refl
+min-max zero zero (suc zero) p q r = refl
+min-max zero (suc zero) zero p q r = refl
+min-max zero (suc zero) (suc zero) p q r = refl
+min-max (suc zero) zero zero p q r = refl
+min-max (suc zero) zero (suc zero) p q r = refl
+min-max (suc zero) (suc zero) zero p q r = refl
+min-max (suc zero) (suc zero) (suc zero) p q r = refl
+min-max (suc (suc x)) y z p q r = absurd (omega arith)
+min-max zero (suc (suc y)) z p q r = absurd (omega arith)
+min-max (suc zero) (suc (suc y)) z p q r = absurd (omega arith)
+min-max zero zero (suc (suc z)) p q r = absurd (omega arith)
+min-max zero (suc zero) (suc (suc z)) p q r = absurd (omega arith)
+min-max (suc zero) zero (suc (suc z)) p q r = absurd (omega arith)
+min-max (suc zero) (suc zero) (suc (suc z)) p q r = absurd (omega arith)
+
+or-odd : (a b : ℕ) → bitOr a b % 2 ≡ max (a % 2) (b % 2)
+or-odd a b = or-mod a b 1 ∙ or-digit (a % 2) (b % 2) (omega arith) (omega arith)
+
+and-odd : (a b : ℕ) → bitAnd a b % 2 ≡ min (a % 2) (b % 2)
+and-odd a b = and-mod a b 1 ∙ and-digit (a % 2) (b % 2) (omega arith) (omega arith)
+
+and-or : (a b m : ℕ) → bitAnd (bitOr a b) m ≡ bitOr (bitAnd a m) (bitAnd b m)
+and-or =
+    bin-ind (λ (n : ℕ). (b m : ℕ) → bitAnd (bitOr n b) m ≡ bitOr (bitAnd n m) (bitAnd b m)) (λ b m. refl)
+    (λ n ih b m.
+    and-step (bitOr n b) m
+    ∙ rw (
+      or-shr n b 1,
+      or-odd n b,
+      ih (b / 2) (m / 2),
+      min-max (n % 2) (b % 2) (m % 2) (omega arith) (omega arith) (omega arith),
+      or-step (bitAnd n m) (bitAnd b m),
+      and-shr n m 1,
+      and-shr b m 1,
+      and-odd n m,
+      and-odd b m,
+    ))
+
+-- neither of two is there
+or-test : (a b : ℕ) → eqb (bitOr a b) 0 ≡ eqb a 0 && eqb b 0
+or-test a b =
+    same-test _ _
+    (λ none.
+    let each = or-zero a b (eqb-true _ 0 none) in
+    both _ _ (eq-eqb a 0 (each .0)) (eq-eqb b 0 (each .1)))
+    (λ none.
+    rw (
+      eqb-true a 0 (and-first _ _ none),
+      eqb-true b 0 (and-second (eqb a 0) _ none),
+    ))
+
+-- and neither under a mask
+mask-test : (a b m : ℕ) → eqb (bitAnd (bitOr a b) m) 0 ≡ eqb (bitAnd a m) 0 && eqb (bitAnd b m) 0
+mask-test a b m = rw (and-or a b m) (or-test (bitAnd a m) (bitAnd b m))
+
+-- ---- tests that the checker computes
+
+bitsSix : ℕ → Bool
+bitsSix x = eqb (bitAnd x 6) (2 * bit (bitOf x 1) + 4 * bit (bitOf x 2))
+
+all-six : every 256 bitsSix ≡ true
+unfolding every bitsSix
+all-six = refl
+
+bitsTop : ℕ → Bool
+bitsTop x = eqb (bitAnd x 192) (64 * bit (bitOf x 6) + 128 * bit (bitOf x 7))
+
+all-top : every 256 bitsTop ≡ true
+unfolding every bitsTop
+all-top = refl
+
+-- neither main nor get ends this stage
+abbrev restful : ℕ → Bool
+restful stage = not (eqb stage 3) && not (eqb stage 8) && not (told stage)
+
+sameBits : ℕ → Bool
+sameBits stage = Bool·beq (eqb (bitAnd (13 * stage) 36) 0) (restful stage)
+
+all-stages : every 11 sameBits ≡ true
+unfolding every sameBits
+all-stages = refl
+
+beq-is : (a b : Bool) → Bool·beq a b ≡ true → a ≡ b
+beq-is true true e = refl
+beq-is true false e = absurd (false≢true e)
+beq-is false true e = absurd (false≢true e)
+beq-is false false e = refl
+
+bits-2-5 : (stage : ℕ) → stage ≤ 10 → eqb (bitAnd (13 * stage) 36) 0 ≡ restful stage
+unfolding sameBits
+bits-2-5 stage small = beq-is _ _ (every-at 11 sameBits all-stages stage (omega arith))
+
+-- ---- a record's word
+
+four-bits : (a n f e : Bool)
+    → eqb (fromParts 0 (2 * bit a + 4 * bit n) (64 * bit f + 128 * bit e) 0 0) 0 ≡ not a && not f && not e && not n
+four-bits true true true true = refl
+four-bits true true true false = refl
+four-bits true true false true = refl
+four-bits true true false false = refl
+four-bits true false true true = refl
+four-bits true false true false = refl
+four-bits true false false true = refl
+four-bits true false false false = refl
+four-bits false true true true = refl
+four-bits false true true false = refl
+four-bits false true false true = refl
+four-bits false true false false = refl
+four-bits false false true true = refl
+four-bits false false true false = refl
+four-bits false false false true = refl
+four-bits false false false false = refl
+
+module _ (stage flags requests third note : ℕ) (s-lt : stage < 256) (f-lt : flags < 256) (r-lt : requests < 256)
+    (t-lt : third < 256) where
+  abbrev word : ℕ
+  word = fromParts stage flags requests third note
+
+  links-left : bitAnd word 12584448
+      ≡ fromParts 0 (2 * bit (bitOf flags 1) + 4 * bit (bitOf flags 2)) (64 * bit (bitOf requests 6) + 128 * bit (bitOf requests 7)) 0 0
+  unfolding bitsSix bitsTop
+  links-left =
+      rw (
+        two-parts stage 0 (flags + 256 * (requests + 256 * (third + 256 * note))) 49158 s-lt (omega arith),
+        two-parts flags 6 (requests + 256 * (third + 256 * note)) 192 f-lt (omega arith),
+        two-parts requests 192 (third + 256 * note) 0 r-lt (omega arith),
+        and-zero-r stage,
+        and-zero-r (third + 256 * note),
+        eqb-true (bitAnd flags 6) _ (every-at 256 bitsSix all-six flags f-lt),
+        eqb-true (bitAnd requests 192) _ (every-at 256 bitsTop all-top requests r-lt),
+      )
+
+  low-byte : word % 256 ≡ stage
+  low-byte = omega arith
+
+turn : (a f e n r : Bool) → (a && f && e && n) && r ≡ r && a && f && e && n
+turn a f e n true = and-true (a && f && e && n)
+turn a f e n false = none (a && f && e && n)
+  where
+    none : (b : Bool) → b && false ≡ false
+    none true = refl
+    none false = refl
+
+-- nothing waits exactly when events 2 to 7 are idle
+word-quiet : (s : List ℕ) → Bytes s → (i : ℕ) → processIn s i .stage ≤ 10 → (e : Envelope)
+    → eqb (bitAnd (number s (16 + 8 * i) 8) 12584448) 0 && eqb (bitAnd (13 * (number s (16 + 8 * i) 8 % 256)) 36) 0
+    ≡ quiet e (processIn s i)
+unfolding processIn
+word-quiet s small i stage e =
+    let at = 16 + 8 * i in
+    let st = getD s at 0 in
+    let fl = getD s (at + 1) 0 in
+    let rq = getD s (at + 2) 0 in
+    let th = getD s (at + 3) 0 in
+    let nt = number s (at + 4) 4 in
+    rw (
+      word-is s small i,
+      links-left st fl rq th nt (small at) (small (at + 1)) (small (at + 2)) (small (at + 3)),
+      low-byte st fl rq th nt (small at) (small (at + 1)) (small (at + 2)) (small (at + 3)),
+      four-bits (bitOf fl 1) (bitOf fl 2) (bitOf rq 6) (bitOf rq 7),
+      bits-2-5 st stage,
+      quiet-nothing e (processIn s i),
+    )
+    (turn (not (bitOf fl 1)) (not (bitOf rq 6)) (not (bitOf rq 7)) (not (bitOf fl 2)) (restful st))
+
+-- ---- the walk
+
+-- the test of all words under their mask, and of all stages
+abbrev pub noneWaits : ℕ → ℕ → Bool
+noneWaits any stages = eqb (bitAnd any 12584448) 0 && eqb stages 0
+
+pub quiet-none : (s : List ℕ) → QuietAre s 0 (noneWaits 0 0)
+unfolding all
+quiet-none s e = rw (processes-none s)
+
+pub quiet-more : (s : List ℕ) → Bytes s → (n i any stages : ℕ) {word : ℕ} → recordsFit s n ≡ true → i < n
+    → QuietAre s i (noneWaits any stages) → word ≡ number s (16 + 8 * i) 8
+    → QuietAre s (i + 1) (noneWaits (bitOr any word) (bitOr stages (bitAnd (13 * (word % 256)) 36)))
+quiet-more s small n i any stages {word} fit below before read e =
+    let here : noneWaits word (bitAnd (13 * (word % 256)) 36) ≡ quiet e (processIn s i) =
+    rw read (word-quiet s small i (record-facts s n fit i below .stage) e) in
+    rw (mask-test any word 12584448, or-test stages (bitAnd (13 * (word % 256)) 36))
+    (pairs (eqb (bitAnd any 12584448) 0) (eqb (bitAnd word 12584448) 0) (eqb stages 0) _
+    ∙ rw (
+      before e,
+      here,
+      processes-more s i,
+      all-more (quiet e) (processesIn s i) (processIn s i),
+    ))
