@@ -14,7 +14,7 @@ use Rattle.machine.specs.Events.{startPut, startGet, work, signal, recei
 use Rattle.machine.specs.Events.{reaction, outcome, apply}
 use Rattle.machine.specs.Stopped.{quiet, stopped}
 use Rattle.machine.specs.Run.{ledgerRecord, ledgerEntry, ledgerFrom, counted, countsFrom, after}
-use Rattle.machine.specs.Balance.{filledFrom, takenFrom, totalsFrom}
+use Rattle.machine.specs.Balance.{filledFrom, takenFrom, totalsFrom, inStages}
 use Rattle.machine.specs.Tape.{eventIn, eventsIn, words, checkFrom, covered, usedSlots, listOf, blockBytes}
 use Rattle.machine.specs.Tape.{slotsFor, padded, blockFor, tapeOf}
 use Rattle.machine.specs.Refusals.{first, sizeVerdict, homeVerdict, roomVerdict, imageVerdict, eventFits}
@@ -55,7 +55,7 @@ unfolding ledgerRecord ledgerEntry ledgerFrom counted countsFrom after
 ofRun = true
 
 unfoldable pub ofBalance : Bool
-unfolding filledFrom takenFrom totalsFrom
+unfolding filledFrom takenFrom totalsFrom inStages
 ofBalance = true
 
 unfoldable pub ofTape : Bool

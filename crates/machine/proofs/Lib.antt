@@ -38,3 +38,4 @@ pub mod Steps
 pub mod Runs
 pub mod Tallies
 pub mod Balance
+pub mod Alone

@@ -11,6 +11,7 @@ pub mod Events
 pub mod Stopped
 pub mod Run
 pub mod Balance
+pub mod Alone
 pub mod Tape
 pub mod Refusals
 pub mod Answers

@@ -42,6 +42,10 @@ markable s = cond s (within 7 10) (within 2 5)
 abbrev pub sending : ℕ → Bool
 sending = within 1 5
 
+-- a put that has filled the envelope and not ended
+abbrev pub filled : ℕ → Bool
+filled = within 4 5
+
 -- a get that has started and not ended
 abbrev pub receiving : ℕ → Bool
 receiving = within 6 10

@@ -13,7 +13,7 @@ use Rattle.machine.specs.declared.Process.{Process}
 use Rattle.machine.specs.declared.Reaction.{Reaction}
 use Rattle.machine.specs.declared.Outcome.the-variants.{Got}
 use Rattle.machine.specs.Fields.{Status, full, empty, for, either, count, withCount}
-use Rattle.machine.specs.Stages.{told}
+use Rattle.machine.specs.Stages.{told, filled}
 use Rattle.machine.specs.Events.{idle, ask, pass, markFor, mark, unmark, clear, positive, wanted, leave}
 use Rattle.machine.specs.Events.{heeding, forward, ends, stroll, wait, endPut}
 use Rattle.machine.specs.Events.{startPut, startGet, work, signal, receive, hear, put, react}
@@ -22,7 +22,7 @@ use Rattle.machine.proofs.Ways.{by-test, choice, by-stage, every-code}
 use Rattle.machine.proofs.Sums.{marksFor}
 use Rattle.machine.proofs.Owed.{Owed, begun, begun-owed, ask-owed, pass-owed, forward-owed, clear-owed}
 use Rattle.machine.proofs.Settled.{Fits, told-each, at-stage, had-at, other-status, waitsFor, mark-waiting}
-use Rattle.machine.proofs.Balance.Clauses.{filled, unclaimed}
+use Rattle.machine.proofs.Balance.Clauses.{unclaimed}
 use Rattle.machine.proofs.Balance.Pairs.{either-for}
 use Rattle.machine.proofs.Balance.Stages.{mayFor}
 use Rattle.machine.proofs.Balance.Header.{pass-alone, ask-pass-alone}

@@ -13,7 +13,7 @@ use Rattle.machine.specs.Bytes.{bit}
 use Rattle.machine.specs.Ring.{left}
 use Rattle.machine.specs.Fields.{Status, for}
 use Rattle.machine.specs.Image.{State}
-use Rattle.machine.specs.Stages.{within, sending, receiving}
+use Rattle.machine.specs.Stages.{within, sending, filled, receiving}
 use Rattle.machine.specs.Events.{wanted, processAt}
 use Rattle.machine.specs.Balance.{Totals, ownMessage}
 use Rattle.machine.proofs.Sums.{sum, flagsSet, places-sum}
@@ -25,10 +25,6 @@ use Rattle.machine.proofs.Facts.{StateFacts}
 -- stages that no event but a put moves on: 0, 2, 5, 7, 10
 abbrev pub restful : ℕ → Bool
 restful stage = eqb stage 0 || eqb stage 2 || eqb stage 5 || eqb stage 7 || eqb stage 10
-
--- a message is filled, and its put hasn't ended
-abbrev pub filled : ℕ → Bool
-filled = within 4 5
 
 -- a message is taken, and its get hasn't ended
 abbrev pub emptied : ℕ → Bool

@@ -16,7 +16,7 @@ use Rattle.machine.specs.declared.Outcome.the-variants.{Moved, Got}
 use Rattle.machine.specs.declared.Reaction.{Reaction}
 use Rattle.machine.specs.Bytes.{bit}
 use Rattle.machine.specs.Fields.{Status, full, empty, for}
-use Rattle.machine.specs.Stages.{told, sending, receiving}
+use Rattle.machine.specs.Stages.{told, sending, filled, receiving}
 use Rattle.machine.specs.Run.{outcomeNumber}
 use Rattle.machine.specs.Balance.{filledBy, takenBy, ownMessage}
 use Rattle.machine.specs.Events.{idle, ask, pass, markFor, mark, unmark, clear, wanted, leave, heeding}
@@ -26,7 +26,7 @@ use Rattle.machine.proofs.Lists.{and-first, and-second}
 use Rattle.machine.proofs.Ways.{choice, by-test, pass-keeps, by-stage, by-code}
 use Rattle.machine.proofs.Owed.{begun}
 use Rattle.machine.proofs.Settled.{Fits, told-each, at-stage}
-use Rattle.machine.proofs.Balance.Clauses.{filled, emptied}
+use Rattle.machine.proofs.Balance.Clauses.{emptied}
 
 -- ---- the counts at two stages
 

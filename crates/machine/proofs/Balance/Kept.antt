@@ -17,7 +17,7 @@ use Rattle.machine.specs.Bytes.{bit}
 use Rattle.machine.specs.Lists.{all}
 use Rattle.machine.specs.Fields.{Status, count}
 use Rattle.machine.specs.Image.{State}
-use Rattle.machine.specs.Stages.{sending, receiving}
+use Rattle.machine.specs.Stages.{sending, filled, receiving}
 use Rattle.machine.specs.Events.{Event, react, processAt, place, reaction, outcome, apply}
 use Rattle.machine.specs.Run.{counted, countsFrom, after}
 use Rattle.machine.specs.Balance.{filledBy, takenBy, filledFrom, takenFrom, ownMessage, Totals, totalsOf, onRing}
@@ -27,7 +27,7 @@ use Rattle.machine.proofs.Settled.{Fits}
 use Rattle.machine.proofs.Facts.{fits-at}
 use Rattle.machine.proofs.Placed.{length-placed, sum-placed}
 use Rattle.machine.proofs.Kept.{length-applied, facts-kept}
-use Rattle.machine.proofs.Balance.Clauses.{filled, emptied, number, Counted, Invariant, one-flag}
+use Rattle.machine.proofs.Balance.Clauses.{emptied, number, Counted, Invariant, one-flag}
 use Rattle.machine.proofs.Balance.Header.{react-only-holder}
 use Rattle.machine.proofs.Balance.Rest.{react-rests}
 use Rattle.machine.proofs.Balance.Claimed.{react-claims}

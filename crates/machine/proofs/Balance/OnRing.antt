@@ -17,11 +17,12 @@ use Rattle.machine.specs.declared.Reaction.{Reaction}
 use Rattle.machine.specs.Bytes.{bit}
 use Rattle.machine.specs.Ring.{left, right}
 use Rattle.machine.specs.Fields.{Status, none, for}
+use Rattle.machine.specs.Stages.{filled}
 use Rattle.machine.specs.Events.{requested, arrived, processAt, place}
 use Rattle.machine.proofs.Ring.{left-other, right-left}
 use Rattle.machine.proofs.Sums.{sum, part-le, two-le, flagsSet}
 use Rattle.machine.proofs.Placed.{length-placed, sum-placed}
-use Rattle.machine.proofs.Balance.Clauses.{filled, number, AtRest, unclaimed, HasAsked, awaits, holdsRequest}
+use Rattle.machine.proofs.Balance.Clauses.{number, AtRest, unclaimed, HasAsked, awaits, holdsRequest}
 use Rattle.machine.proofs.Balance.Clauses.{Handed}
 use Rattle.machine.proofs.Balance.Pairs.{either-for}
 use Rattle.machine.proofs.Around.{beside, placed-self, placed-other}

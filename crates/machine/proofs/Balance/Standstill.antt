@@ -14,6 +14,7 @@ use Rattle.machine.specs.Bytes.{bit}
 use Rattle.machine.specs.Ring.{left}
 use Rattle.machine.specs.Fields.{Status, for, count, blank}
 use Rattle.machine.specs.Image.{State}
+use Rattle.machine.specs.Stages.{filled}
 use Rattle.machine.specs.Events.{positive, wanted, processAt}
 use Rattle.machine.specs.Stopped.{quiet, stopped, Stopped}
 use Rattle.machine.specs.Balance.{Totals, ownMessage}
@@ -22,7 +23,7 @@ use Rattle.machine.proofs.Sums.{sum, some-part, parts-le, parts-none, f
 use Rattle.machine.proofs.Facts.{fits-at}
 use Rattle.machine.proofs.Stopped.{means-stopped, quiet-nothing}
 use Rattle.machine.proofs.Ring.{left-below}
-use Rattle.machine.proofs.Balance.Clauses.{filled, emptied, number, Rests, Invariant, one-flag}
+use Rattle.machine.proofs.Balance.Clauses.{emptied, number, Rests, Invariant, one-flag}
 use Rattle.machine.proofs.Balance.Walk.{round}
 use Rattle.machine.proofs.Balance.Still.{refuted, Still, nothing-still, filled-rests}
 use Rattle.machine.proofs.Balance.Still.{rests-on, served, Unserved, rests-unserved}

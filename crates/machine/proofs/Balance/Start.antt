@@ -9,7 +9,7 @@ use lib.ListN.{set, replicate}
 use Rattle.machine.specs.declared.Process.{Process}
 use Rattle.machine.specs.Bytes.{bit}
 use Rattle.machine.specs.Fields.{Status, blank, withHave}
-use Rattle.machine.specs.Stages.{sending, receiving}
+use Rattle.machine.specs.Stages.{sending, filled, receiving}
 use Rattle.machine.specs.Fresh.{freshEnvelope, freshState}
 use Rattle.machine.specs.Events.{wanted, processAt}
 use Rattle.machine.specs.Run.{noCounts}
@@ -17,7 +17,7 @@ use Rattle.machine.specs.Balance.{totalsOf}
 use Rattle.machine.proofs.Fresh.{fresh-fits, length-fresh}
 use Rattle.machine.proofs.Sums.{parts-none}
 use Rattle.machine.proofs.Facts.{state-facts}
-use Rattle.machine.proofs.Balance.Clauses.{filled, emptied, number, AtRest, HasAsked, awaits, Invariant}
+use Rattle.machine.proofs.Balance.Clauses.{emptied, number, AtRest, HasAsked, awaits, Invariant}
 
 -- ---- a record of the fresh ring
 

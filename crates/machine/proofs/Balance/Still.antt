@@ -11,11 +11,11 @@ use Rattle.machine.specs.declared.Process.{Process}
 use Rattle.machine.specs.Bytes.{bit}
 use Rattle.machine.specs.Lists.{every}
 use Rattle.machine.specs.Fields.{Status, for}
-use Rattle.machine.specs.Stages.{lastStage, told, withEmpty, withFull, sending, receiving}
+use Rattle.machine.specs.Stages.{lastStage, told, withEmpty, withFull, sending, filled, receiving}
 use Rattle.machine.proofs.Lists.{and-first, and-second, or-first, or-second, follow}
 use Rattle.machine.proofs.Settled.{Fits, had-at, waitsFor}
 use Rattle.machine.proofs.Stopped.{nothingAt}
-use Rattle.machine.proofs.Balance.Clauses.{restful, filled, emptied, Rests, seeks, HasAsked}
+use Rattle.machine.proofs.Balance.Clauses.{restful, emptied, Rests, seeks, HasAsked}
 use Rattle.machine.proofs.Balance.Clauses.{holdsRequest, Handed}
 use Rattle.machine.proofs.Balance.Stages.{at-stages}
 

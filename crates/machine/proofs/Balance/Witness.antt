@@ -12,7 +12,7 @@ use Rattle.machine.specs.Balance.{totalsFrom, onRing}
 use Rattle.machine.proofs.Computed.{rules}
 
 -- an event at a process
-abbrev at : ℕ → ℕ → ℕ → Event
+abbrev pub at : ℕ → ℕ → ℕ → Event
 at process code message = record { process = process; code = code; message = message }
 
 -- process 1 fills the envelope, which is at home at 0, with 7
