@@ -1,17 +1,34 @@
 -- Entry 10. A put may end alone, in rings of two and of three: the checker computes a list of events for each, and one
--- more by which a get takes the message, so that the ring is stopped after all. Assumes nothing.
-use Prim.Native.Nat.{ℕ}
-use mathlib.Core.Path.{_≡_, refl}
-use mathlib.Core.Bool.{true}
-use mathlib.Core.List.{List, [], _∷_, _++_}
+-- more by which a get takes the message and the ring is stopped after all. And in every ring: where the put of a full
+-- envelope has ended, one more put has ended than messages were taken. When the ring is stopped as many gets as puts
+-- have ended, and no get ends before its take: so a message has been taken since, the envelope's own before any other.
+-- Assumes nothing.
+use Prim.Native.Nat.{ℕ, _+_, _≤_}
+use mathlib.Core.Path.{_≡_, refl, sym, ap, _∙_}
+use mathlib.Core.Bool.{true, false}
+use mathlib.Core.List.{List, [], _∷_, _++_, append-assoc, append-cancel-left, head-eq-of-cons-eq, cons≢nil}
+use native.Mathlib.Omega.{arith}
+use lib.ListN.{length, length-append}
 use lib.Dec.{lit<}
+use Rattle.machine.specs.declared.Counts.{Counts}
+use Rattle.machine.specs.Image.{State}
+use Rattle.machine.specs.Stages.{filled}
 use Rattle.machine.specs.Fresh.{freshState}
 use Rattle.machine.specs.Events.{Event}
-use Rattle.machine.specs.Stopped.{stopped}
-use Rattle.machine.specs.Run.{after}
-use Rattle.machine.specs.Balance.{Totals, totalsFrom}
-use Rattle.machine.specs.Alone.{EndsAlone}
+use Rattle.machine.specs.Stopped.{stopped, Stopped}
+use Rattle.machine.specs.Run.{countsFrom, noCounts, after}
+use Rattle.machine.specs.Balance.{filledFrom, takenFrom, ownMessage, Totals, totalsOf, totalsFrom, onRing}
+use Rattle.machine.specs.Alone.{PutEnded, EndsAlone, OncePutEnded, NoStopWithoutTake, StoppedOnceTaken}
 use Rattle.machine.proofs.Computed.{rules}
+use Rattle.machine.proofs.Fresh.{length-fresh}
+use Rattle.machine.proofs.Stopped.{stopped-means}
+use Rattle.machine.proofs.Runs.{length-after}
+use Rattle.machine.proofs.Tallies.{sent-add}
+use Rattle.machine.proofs.Balance.Clauses.{Invariant}
+use Rattle.machine.proofs.Balance.Kept.{events-kept}
+use Rattle.machine.proofs.Balance.Still.{refuted}
+use Rattle.machine.proofs.Balance.Standstill.{ended}
+use Rattle.machine.proofs.Balance.Theorem.{in-stages-sum, reached}
 use Rattle.machine.proofs.Balance.Witness.{at}
 
 -- ---- a put may end alone
@@ -40,12 +57,12 @@ threeOutlive =
     ∷ at 2 4 0 ∷ at 2 5 0 ∷ at 2 7 0 ∷ at 2 2 0 ∷ at 2 3 0 ∷ at 2 7 0 ∷ []
 
 -- process i has the empty envelope and fills it: the marker lets it leave, and the put ends
-unfoldable pub ends : ℕ → ℕ → List Event
-ends i message = at i 0 message ∷ at i 3 0 ∷ at i 7 0 ∷ at i 2 0 ∷ at i 3 0 ∷ at i 7 0 ∷ []
+unfoldable pub fillAt : ℕ → ℕ → List Event
+fillAt i message = at i 0 message ∷ at i 3 0 ∷ at i 7 0 ∷ at i 2 0 ∷ at i 3 0 ∷ at i 7 0 ∷ []
 
 -- the envelope is on its way to process i, which takes the message
-unfoldable pub takes : ℕ → List Event
-takes i = at i 1 0 ∷ at i 3 0 ∷ at i 4 0 ∷ at i 7 0 ∷ at i 2 0 ∷ at i 3 0 ∷ at i 7 0 ∷ []
+unfoldable pub takeAt : ℕ → List Event
+takeAt i = at i 1 0 ∷ at i 3 0 ∷ at i 4 0 ∷ at i 7 0 ∷ at i 2 0 ∷ at i 3 0 ∷ at i 7 0 ∷ []
 
 -- a put ends alone, with these totals; and after some more events the ring is stopped
 abbrev pub AloneThenStopped : ℕ → List Event → List Event → List Event → List Event → Totals → Type 0
@@ -56,9 +73,9 @@ AloneThenStopped n crosses outlives ends more t =
 
 -- 27 events: of two puts and one get all have ended, and nobody is left to take the second message
 pub two-alone :
-    AloneThenStopped 2 twoCross twoOutlive (ends 0 22) (takes 1)
+    AloneThenStopped 2 twoCross twoOutlive (fillAt 0 22) (takeAt 1)
     (record { puts = 2; gets = 1; sent = 2; got = 1; filled = 2 ∷ 22 ∷ []; taken = 2 ∷ [] })
-unfolding rules twoCross twoOutlive ends takes
+unfolding rules twoCross twoOutlive fillAt takeAt
 two-alone = (
   record {
     on-ring = refl;
@@ -78,9 +95,9 @@ two-alone = (
 
 -- 28 events: the same in a ring of three
 pub three-alone :
-    AloneThenStopped 3 threeCross threeOutlive (ends 2 23) (takes 0)
+    AloneThenStopped 3 threeCross threeOutlive (fillAt 2 23) (takeAt 0)
     (record { puts = 2; gets = 1; sent = 2; got = 1; filled = 1 ∷ 23 ∷ []; taken = 1 ∷ [] })
-unfolding rules threeCross threeOutlive ends takes
+unfolding rules threeCross threeOutlive fillAt takeAt
 three-alone = (
   record {
     on-ring = refl;
@@ -97,3 +114,84 @@ three-alone = (
   refl,
   refl,
 )
+
+-- ---- not stopped until a get has taken the message
+
+-- some messages that come before others, where the first of all is m, begin with m
+first-is : (m : ℕ) (all some others : List ℕ) → 1 ≤ length some → m ∷ all ≡ some ++ others
+    → (later : List ℕ) × (some ≡ m ∷ later)
+first-is m all [] others positive same = absurd (omega arith)
+first-is m all (x ∷ later) others positive same =
+    (later, ap (λ (k : ℕ). k ∷ later) (sym (head-eq-of-cons-eq same)))
+
+-- a ring with the invariant, full and with its put ended, and events from there on
+module _ (st : State) (c : Counts) (fills takes : List ℕ) (inv : Invariant st (totalsOf c fills takes))
+    (put-ended : PutEnded st) (ws : List Event) (on-ring : onRing (length (st .processes)) ws ≡ true) where
+  -- the envelope's own message
+  abbrev message : ℕ
+  message = st .envelope .message
+
+  -- it is the last of those filled
+  filled-last : fills ≡ takes ++ (message ∷ [])
+  filled-last = rw (put-ended .is-full) at (inv .counted .messages)
+
+  -- so one more put has ended than messages were taken
+  one-more : c .sent ≡ length takes + 1
+  one-more =
+      omega (
+        arith,
+        inv .counted .fills,
+        in-stages-sum filled (st .processes),
+        put-ended .nobody,
+        ap length filled-last ∙ length-append takes (message ∷ []),
+      )
+
+  -- the invariant after the events
+  kept : Invariant (after st ws) (totalsOf (countsFrom c st ws) (fills ++ filledFrom st ws) (takes ++ takenFrom st ws))
+  kept = events-kept ws st c fills takes inv on-ring
+
+  -- where it is stopped, something was taken
+  some-taken : Stopped (after st ws) → 1 ≤ length (takenFrom st ws)
+  some-taken halt =
+      omega (
+        arith,
+        one-more,
+        sent-add ws st c,
+        ended (after st ws) _ kept halt .0,
+        kept .counted .takes,
+        length-append takes (takenFrom st ws),
+      )
+
+  -- and messages are taken in the order in which they were filled
+  in-order : message ∷ filledFrom st ws ≡ takenFrom st ws ++ ownMessage (after st ws .envelope)
+  in-order =
+      append-cancel-left takes _ _
+      (sym (append-assoc takes (message ∷ []) (filledFrom st ws))
+      ∙ ap (λ (l : List ℕ). l ++ filledFrom st ws) (sym filled-last)
+      ∙ kept .counted .messages
+      ∙ append-assoc takes (takenFrom st ws) (ownMessage (after st ws .envelope)))
+
+  taken-first : Stopped (after st ws) → (later : List ℕ) × (takenFrom st ws ≡ message ∷ later)
+  taken-first halt = first-is message _ (takenFrom st ws) _ (some-taken halt) in-order
+
+-- from the fresh ring
+pub stopped-once-taken : StoppedOnceTaken
+unfolding totalsFrom
+stopped-once-taken n home two few below vs on-ring put-ended ws then-on-ring =
+    let fresh = freshState n home in
+    taken-first (after fresh vs) (countsFrom noCounts fresh vs) (filledFrom fresh vs) (takenFrom fresh vs)
+    (reached n home two few below vs on-ring) put-ended ws
+    (rw (length-after vs fresh, length-fresh n home) then-on-ring)
+
+-- nothing taken is not that message taken
+pub no-stop-without-take : NoStopWithoutTake
+no-stop-without-take n home two few below vs on-ring put-ended ws then-on-ring none halt =
+    let found = stopped-once-taken n home two few below vs on-ring put-ended ws then-on-ring halt in
+    cons≢nil (sym (found .1) ∙ none)
+
+-- and so the test says no
+pub not-stopped-without-take : OncePutEnded (λ st ws. takenFrom st ws ≡ [] → stopped (after st ws) ≡ false)
+not-stopped-without-take n home two few below vs on-ring put-ended ws then-on-ring none =
+    let end = after (after (freshState n home) vs) ws in
+    refuted (stopped end)
+    (λ yes. no-stop-without-take n home two few below vs on-ring put-ended ws then-on-ring none (stopped-means end yes))

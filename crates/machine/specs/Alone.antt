@@ -1,20 +1,20 @@
--- Entry 10: document 01, "Ten entries to try", the last. A request for full that crossed the envelope may outlive the get
--- that it served, and then a put ends alone; from there the ring isn't stopped before a get has taken the message.
--- Assumes nothing.
-use Prim.Native.Nat.{ℕ, _<_}
+-- Entry 10: document 01, "Ten entries to try". A request for full that crossed the envelope may outlive the get that it
+-- served, and then a put may end alone; from there the ring isn't stopped before a get has taken the message. Assumes
+-- nothing.
+use Prim.Native.Nat.{ℕ, _≤_, _<_}
 use mathlib.Core.Path.{_≡_}
 use mathlib.Core.Bool.{true, false}
-use mathlib.Core.List.{List, _++_}
+use mathlib.Core.List.{List, [], _∷_, _++_}
 use lib.ListN.{length}
-use Rattle.machine.specs.Ring.{left}
+use Rattle.machine.specs.Ring.{least, most, left}
 use Rattle.machine.specs.Fields.{full, for}
 use Rattle.machine.specs.Image.{State}
 use Rattle.machine.specs.Stages.{filled, receiving}
 use Rattle.machine.specs.Fresh.{freshState}
 use Rattle.machine.specs.Events.{Event, processAt}
-use Rattle.machine.specs.Stopped.{stopped}
+use Rattle.machine.specs.Stopped.{stopped, Stopped}
 use Rattle.machine.specs.Run.{after}
-use Rattle.machine.specs.Balance.{Totals, totalsFrom, inStages, onRing}
+use Rattle.machine.specs.Balance.{takenFrom, Totals, totalsFrom, inStages, onRing}
 
 -- ---- states of a ring
 
@@ -46,8 +46,8 @@ pub record EndedAlone (st : State) (t : Totals) : Type 0 where
 
 -- ---- a put may end alone
 
--- how it comes to that in a ring of n, by events in three parts: first a request for full crosses the envelope; what is
--- left of it sets the full marker though no receiver is there; and then a put ends alone
+-- how a ring of n comes to that, by events in three parts: a request for full crosses the envelope; what is left of the
+-- request keeps the full marker set when the receiver is gone; and then a put ends alone
 pub record EndsAlone (n home : ℕ) (crosses outlives ends : List Event) : Type 0 where
   pub on-ring : onRing n (crosses ++ (outlives ++ ends)) ≡ true
   pub crossing : Crossing (after (freshState n home) crosses)
@@ -55,3 +55,24 @@ pub record EndsAlone (n home : ℕ) (crosses outlives ends : List Event) : Type 
   pub alone :
       EndedAlone (after (freshState n home) (crosses ++ (outlives ++ ends)))
       (totalsFrom (freshState n home) (crosses ++ (outlives ++ ends)))
+
+-- ---- not stopped until a get has taken the message
+
+-- what holds of every ring that a list of events comes to, full and with its put ended, and of every further list of
+-- events from there
+abbrev pub OncePutEnded : (State → List Event → Type 0) → Type 0
+OncePutEnded P =
+    (n home : ℕ) → least ≤ n → n ≤ most → home < n → (vs : List Event) → onRing n vs ≡ true
+    → PutEnded (after (freshState n home) vs)
+    → (ws : List Event) → onRing n ws ≡ true
+    → P (after (freshState n home) vs) ws
+
+-- events that take nothing leave it not stopped
+abbrev pub NoStopWithoutTake : Type 0
+NoStopWithoutTake = OncePutEnded (λ st ws. takenFrom st ws ≡ [] → Stopped (after st ws) → ⊥)
+
+-- and if it is stopped, the first message that was taken is the one that the envelope had
+abbrev pub StoppedOnceTaken : Type 0
+StoppedOnceTaken =
+    OncePutEnded
+    (λ st ws. Stopped (after st ws) → (later : List ℕ) × (takenFrom st ws ≡ st .envelope .message ∷ later))

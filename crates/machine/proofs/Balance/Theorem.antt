@@ -21,7 +21,7 @@ use Rattle.machine.proofs.Balance.Kept.{events-kept}
 use Rattle.machine.proofs.Balance.Standstill.{ended}
 
 -- processes in stages of a set are a sum
-in-stages-sum : (stages : ℕ → Bool) (l : List Process) → inStages stages l ≡ number stages l
+pub in-stages-sum : (stages : ℕ → Bool) (l : List Process) → inStages stages l ≡ number stages l
 unfolding inStages sum
 in-stages-sum stages [] = refl
 in-stages-sum stages (p ∷ l) = ap (λ (n : ℕ). bit (stages (p .stage)) + n) (in-stages-sum stages l)
