@@ -1,4 +1,5 @@
--- Each way through the tape's test, with what the functions read as variables. Assumes nothing.
+-- Each way through the tests of a tape and of a list is that way through the rule. What the functions read is a
+-- variable here, with the value that it is known to be. Assumes nothing.
 use Prim.Native.Nat.{ℕ, _+_, _-_, _*_, _/_, _%_, _≤_, _<_}
 use mathlib.Core.Path.{_≡_, refl, sym, ap, _∙_}
 use mathlib.Core.Bool.{Bool, true, false, _&&_, _||_}

@@ -1,8 +1,8 @@
 -- The third demand over lists of calls: the fresh ring has the invariant with nothing shown, every call keeps it with
 -- what it shows besides, and what is promised is read off it and off the image's bytes. Assumes nothing.
 use Prim.Native.Nat.{ℕ, suc, _≤_, _<_}
-use mathlib.Core.Path.{_≡_, refl, sym, ap, subst, _∙_}
-use mathlib.Core.Bool.{Bool, true, false}
+use mathlib.Core.Path.{_≡_, sym, ap, subst, _∙_}
+use mathlib.Core.Bool.{true, false}
 use mathlib.Core.List.{List, [], _∷_}
 use native.Mathlib.Omega.{arith}
 use lib.ListN.{length}
@@ -17,11 +17,10 @@ use Rattle.machine.specs.Stopped.{stopped}
 use Rattle.machine.specs.Balance.{Totals}
 use Rattle.machine.specs.Refusals.{imageVerdict}
 use Rattle.machine.specs.Answers.{Answer, freshVerdict, freshImage, stoppedAnswer}
-use Rattle.machine.proofs.Image.{size-written}
-use Rattle.machine.proofs.Readback.{read-state}
+use Rattle.machine.proofs.Bits.{bit-on}
 use Rattle.machine.proofs.Octets.{written-bytes}
 use Rattle.machine.proofs.Refusals.{fresh-whole}
-use Rattle.machine.proofs.Fresh.{fresh-fits, length-fresh, fresh-in-range, fresh-accepted}
+use Rattle.machine.proofs.Fresh.{fresh-fits, length-fresh, fresh-accepted, fresh-written, fresh-size, fresh-state}
 use Rattle.machine.proofs.Facts.{state-facts}
 use Rattle.machine.proofs.Stopped.{stopped-means}
 use Rattle.machine.proofs.Balance.Start.{fresh-invariant}
@@ -45,11 +44,6 @@ module _ (n home : ℕ) (two : least ≤ n) (few : n ≤ most) (below : home < n
   accepted : freshVerdict n home buffer ≡ Fine
   accepted = fresh-whole n home buffer (record { least = two; most = few }) below room
 
-  -- its image is the fresh state, written
-  fresh-written : freshImage n home buffer ≡ imageWith buffer (freshState n home)
-  unfolding freshImage
-  fresh-written = rw accepted
-
   pub fresh-reached : Reached n (freshImage n home buffer) nothing
   unfolding freshState
   fresh-reached =
@@ -59,11 +53,9 @@ module _ (n home : ℕ) (two : least ≤ n) (few : n ≤ most) (below : home < n
       written-bytes buffer st small (omega arith) none-marked (state-facts st (fresh-fits n home below) .processes) in
       record {
         fine = fresh-accepted n home buffer accepted;
-        small = subst Bytes (sym fresh-written) bytes;
-        size = ap sizeIn fresh-written ∙ size-written buffer st ∙ long;
-        invariant =
-            rw (fresh-written, read-state buffer st (fresh-in-range n home))
-            (fresh-invariant n home two few below);
+        small = subst Bytes (sym (fresh-written n home buffer accepted)) bytes;
+        size = fresh-size n home buffer accepted;
+        invariant = rw (fresh-state n home buffer accepted) (fresh-invariant n home two few below);
       }
 
 -- ---- a list of calls
@@ -80,16 +72,12 @@ calls-kept n (c ∷ calls) image t bytes before =
 
 -- ---- what is promised
 
--- 1 is yes
-is-yes : (b : Bool) → bit b ≡ 1 → b ≡ true
-is-yes true e = refl
-is-yes false e = absurd (omega arith)
-
 -- a yes means that the ring is stopped
 says-stopped : (image : List ℕ) → imageVerdict image ≡ Fine → SaysStopped image → stopped (stateIn image) ≡ true
 unfolding stoppedAnswer
 says-stopped image fine says =
-    is-yes (stopped (stateIn image)) (ap (λ (a : Answer). value a 0) (rw fine at says))
+    let yes : bit (stopped (stateIn image)) ≡ 1 = ap (λ (a : Answer). value a 0) (rw fine at says) in
+    bit-on (stopped (stateIn image)) (omega arith)
 
 pub promised : (n : ℕ) (image : List ℕ) (t : Totals) → Reached n image t → Promised n image t
 promised n image t here =

@@ -2,23 +2,16 @@
 -- read one by one, and the envelope's own message, since both read the same bytes. Assumes nothing.
 use Prim.Native.Nat.{ℕ, zero, suc, _+_}
 use mathlib.Core.Path.{_≡_, refl, sym, ap, _∙_}
-use mathlib.Core.List.{List, [], _∷_, _++_}
+use mathlib.Core.List.{List}
 use native.Mathlib.Omega.{arith}
-use Rattle.machine.specs.declared.Process.{Process}
 use Rattle.machine.specs.Bytes.{bit}
 use Rattle.machine.specs.Lists.{tabulate}
 use Rattle.machine.specs.Image.{processIn, processesIn, sizeIn, envelopeIn, stateIn}
 use Rattle.machine.specs.Sound.{places}
 use Rattle.machine.specs.Balance.{ownMessage}
 use Rattle.machine.proofs.Lists.{tabulate-more}
+use Rattle.machine.proofs.Walk.{places-more}
 use Rattle.calls.specs.Demand.{flagsSet, ownMessageIn}
-
--- one process more, at the end
-places-more : (ps : List Process) (p : Process)
-    → places (ps ++ (p ∷ [])) ≡ places ps + bit (p .have) + bit (p .arriving)
-unfolding places
-places-more [] p = omega arith
-places-more (q ∷ ps) p = omega (arith, places-more ps p)
 
 -- of the first n records
 flags-places : (image : List ℕ) (n : ℕ) → flagsSet image n ≡ places (processesIn image n)

@@ -14,7 +14,7 @@ use Rattle.machine.specs.declared.Outcome.{Outcome}
 use Rattle.machine.specs.declared.Outcome.the-variants.{Idle, Moved, Fill, Take, Sent, Got}
 use Rattle.machine.specs.declared.Verdict.{Verdict}
 use Rattle.machine.specs.declared.Verdict.the-variants.{Fine, Refused}
-use Rattle.machine.specs.Bytes.{Bytes, bit, number}
+use Rattle.machine.specs.Bytes.{Bytes, bit}
 use Rattle.machine.specs.Lists.{tabulate}
 use Rattle.machine.specs.Image.{State, sizeIn, stateIn}
 use Rattle.machine.specs.Events.{Event, outcome, apply}

@@ -6,7 +6,7 @@ use super::list::Ran;
 use super::state::state;
 use super::state::status;
 use record::byte::wide;
-use words::place;
+use words::index_of;
 use words::say;
 ghost use Prim.Native.Nat.{_≤_};
 
@@ -21,7 +21,7 @@ const PUT: u8 = 7;
 // Internal: a claim by its word: 0 to 5 are on one request, at an even number full and at an odd one empty, 6 is on
 // both and 7 on the state. 8 for a word that is no claim.
 pub fn claim_of(word: &[u8]) -> usize {
-    place(
+    index_of(
         b"begins-full begins-empty old-full old-empty waits-full waits-empty both state",
         word,
     )

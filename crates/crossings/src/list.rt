@@ -4,7 +4,7 @@ use super::crossing::crossing_in;
 use machine::Outcome;
 use step::StepAnswer;
 use step::step;
-use words::digit;
+use words::digit_value;
 ghost use Prim.Native.Nat.{_+_, _*_, _≤_, _<_};
 ghost use lib.ListN.{length};
 
@@ -47,12 +47,12 @@ fn event_at(list: &[u8], k: usize) -> [u8; 8]
     requires { ⌜ (k < 255) × (5 * k + 3 ≤ length (now list)) ⌝ }
 {
     let code = if marks(list, k) {
-        digit(list[5 * k + 2])
+        digit_value(list[5 * k + 2])
     } else {
         255
     };
     let message = if code == 0 { (k + 1) as u8 } else { 0 };
-    [digit(list[5 * k]), code, 0, 0, message, 0, 0, 0]
+    [digit_value(list[5 * k]), code, 0, 0, message, 0, 0, 0]
 }
 
 // What the step call's answer comes to.

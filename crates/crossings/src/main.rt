@@ -25,7 +25,7 @@ use image::Ring;
 use list::Ran;
 use list::Replayed;
 use list::replay;
-use words::digit;
+use words::digit_value;
 use words::say;
 use words::say_number;
 use words::until;
@@ -81,7 +81,7 @@ fn size_at(text: &[u8], space: usize) -> usize
     requires { ⌜ space + 3 ≤ length (now text) ⌝ }
     ensures { λ r. ⌜ r ≤ 9 ⌝ }
 {
-    let n = digit(text[space + 1]);
+    let n = digit_value(text[space + 1]);
     if text[space + 2] != b' ' {
         return 0;
     }

@@ -1,4 +1,5 @@
--- An event's bytes as code reads and tests them. Assumes nothing.
+-- An event's bytes as code reads and tests them give the rule's event and the rule's test: each is read where the rule
+-- reads it. Assumes nothing.
 use Prim.Native.Nat.{ℕ, _+_}
 use mathlib.Core.Path.{_≡_, refl, sym, _∙_}
 use mathlib.Core.List.{List}

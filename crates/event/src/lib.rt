@@ -19,7 +19,7 @@ use record::byte::number_at;
 use record::byte::wide;
 ghost use mathlib.Core.Path.{_≡_};
 ghost use mathlib.Core.Bool.{true};
-ghost use Prim.Native.Nat.{_+_, _≤_, _<_};
+ghost use Prim.Native.Nat.{_+_, _≤_};
 ghost use lib.ListN.{length};
 ghost use Rattle.machine.specs.Events as rule;
 ghost use Rattle.machine.specs.Tape.{eventIn};

@@ -1,28 +1,22 @@
 -- Byte 2 of a record, changed: which pairs of bits it then has, computed at every value. Assumes nothing.
 use Prim.Native.Nat.{ℕ, _*_, _/_, _<_}
-use mathlib.Core.Path.{_≡_, refl, sym}
-use mathlib.Core.Bool.{Bool, true, false, _&&_, Bool·beq, true≢false}
+use mathlib.Core.Path.{_≡_, refl}
+use mathlib.Core.Bool.{Bool, true, false, _&&_, Bool·beq}
 use lib.Bits.{bitAnd, bitOr}
 use Rattle.machine.specs.declared.Pair.{Pair}
 use Rattle.machine.specs.Lists.{every}
 use Rattle.machine.specs.Fields.{full, empty, none, with}
 use Rattle.machine.specs.Image.{pairOf}
-use Rattle.machine.proofs.Lists.{every-at, and-first, and-second}
+use Rattle.machine.proofs.Lists.{every-at, and-first, and-second, same-bool}
 
 -- whether two pairs are the same
-abbrev alike : Pair → Pair → Bool
-alike p q = Bool·beq (p .full) (q .full) && Bool·beq (p .empty) (q .empty)
+abbrev samePair : Pair → Pair → Bool
+samePair p q = Bool·beq (p .full) (q .full) && Bool·beq (p .empty) (q .empty)
 
-same : (a b : Bool) → Bool·beq a b ≡ true → a ≡ b
-same true true e = refl
-same true false e = sym e
-same false true e = e
-same false false e = refl
-
-alike-same : (p q : Pair) → alike p q ≡ true → p ≡ q
-alike-same p q e =
-    let f = same (p .full) (q .full) (and-first _ (Bool·beq (p .empty) (q .empty)) e) in
-    let g = same (p .empty) (q .empty) (and-second (Bool·beq (p .full) (q .full)) _ e) in
+same-pair : (p q : Pair) → samePair p q ≡ true → p ≡ q
+same-pair p q e =
+    let f = same-bool (p .full) (q .full) (and-first _ (Bool·beq (p .empty) (q .empty)) e) in
+    let g = same-bool (p .empty) (q .empty) (and-second (Bool·beq (p .full) (q .full)) _ e) in
     λ i. record { full = f i; empty = g i }
 
 -- the four pairs of a byte: asked, itself, mark, link
@@ -34,25 +28,25 @@ pub record Pairs (byte : ℕ) (asked itself mark link : Pair) : Type 0 where
 
 -- by a test over all values of the byte that it was
 by-test : (f : ℕ → ℕ) (asked itself mark link : ℕ → Pair)
-    → every 256 (λ k. alike (pairOf (f k) 0) (asked k) && alike (pairOf (f k) 2) (itself k)
-    && (alike (pairOf (f k) 4) (mark k) && alike (pairOf (f k) 6) (link k))) ≡ true
+    → every 256 (λ k. samePair (pairOf (f k) 0) (asked k) && samePair (pairOf (f k) 2) (itself k)
+    && (samePair (pairOf (f k) 4) (mark k) && samePair (pairOf (f k) 6) (link k))) ≡ true
     → (r : ℕ) → r < 256
     → Pairs (f r) (asked r) (itself r) (mark r) (link r)
 by-test f asked itself mark link test r h =
-    let a = alike (pairOf (f r) 0) (asked r) in
-    let b = alike (pairOf (f r) 2) (itself r) in
-    let c = alike (pairOf (f r) 4) (mark r) in
-    let d = alike (pairOf (f r) 6) (link r) in
+    let a = samePair (pairOf (f r) 0) (asked r) in
+    let b = samePair (pairOf (f r) 2) (itself r) in
+    let c = samePair (pairOf (f r) 4) (mark r) in
+    let d = samePair (pairOf (f r) 6) (link r) in
     let all : a && b && (c && d) ≡ true =
-    every-at 256 (λ k. alike (pairOf (f k) 0) (asked k) && alike (pairOf (f k) 2) (itself k)
-    && (alike (pairOf (f k) 4) (mark k) && alike (pairOf (f k) 6) (link k))) test r h in
+    every-at 256 (λ k. samePair (pairOf (f k) 0) (asked k) && samePair (pairOf (f k) 2) (itself k)
+    && (samePair (pairOf (f k) 4) (mark k) && samePair (pairOf (f k) 6) (link k))) test r h in
     let first = and-first (a && b) (c && d) all in
     let second = and-second (a && b) (c && d) all in
     record {
-      asked-is = alike-same _ _ (and-first a b first);
-      itself-is = alike-same _ _ (and-second a b first);
-      mark-is = alike-same _ _ (and-first c d second);
-      link-is = alike-same _ _ (and-second c d second);
+      asked-is = same-pair _ _ (and-first a b first);
+      itself-is = same-pair _ _ (and-second a b first);
+      mark-is = same-pair _ _ (and-first c d second);
+      link-is = same-pair _ _ (and-second c d second);
     }
 
 module _ (r : ℕ) (h : r < 256) where

@@ -1,28 +1,27 @@
--- The same on an image: the records and the header that are written are those of the rule's reaction. Assumes nothing.
+-- Main's work and a put with the envelope on an image: the records and the header that are written are those of the
+-- rule's reaction. Assumes nothing.
 use Prim.Native.Nat.{ℕ, _+_, _-_, _*_, _%_, _≤_, _<_}
 use mathlib.Core.Path.{_≡_, refl, sym, ap, subst, _∙_}
 use mathlib.Core.Bool.{Bool, true, false, not, cond, _&&_, _||_, true≢false}
 use mathlib.Core.List.{List}
 use native.Mathlib.Omega.{arith}
-use lib.ListN.{length, getD}
 use lib.Bits.{bitOr}
 use lib.Dec.{eqb}
-use borrow.Author.Tests.{not-true, not-false, eqb-true, ne-eqb}
-use Rattle.machine.specs.declared.Pair.{Pair}
+use borrow.Author.Tests.{not-false, eqb-true, ne-eqb}
 use Rattle.machine.specs.declared.Envelope.{Envelope}
 use Rattle.machine.specs.declared.Process.{Process}
 use Rattle.machine.specs.declared.Reaction.{Reaction}
 use Rattle.machine.specs.declared.Outcome.{Outcome}
 use Rattle.machine.specs.declared.Outcome.the-variants.{Moved, Fill, Take}
-use Rattle.machine.specs.Bytes.{Bytes, bit, bitOf, number, splice}
+use Rattle.machine.specs.Bytes.{Bytes, bit, bitOf, splice}
 use Rattle.machine.specs.Lists.{every}
-use Rattle.machine.specs.Ring.{left, right, recordAt}
+use Rattle.machine.specs.Ring.{right, recordAt}
 use Rattle.machine.specs.Fields.{none, for, count, holding, full, empty, withNews, withNote, withStage, processOf}
 use Rattle.machine.specs.Image.{pairOf, processFrom, flagBits, envelopeIn, processIn, sizeIn, stateIn, processBytes}
 use Rattle.machine.specs.Image.{imageWith, withProcess, withEnvelope}
 use Rattle.machine.specs.Events as rule
 use Rattle.machine.specs.Stopped.{isIdle}
-use Rattle.machine.proofs.Lists.{every-at, follow, and-first, and-second}
+use Rattle.machine.proofs.Lists.{every-at, agree, follow, and-first, and-second}
 use Rattle.machine.proofs.Bits.{flags-are, requests-are}
 use Rattle.machine.proofs.Stored.{read-at}
 use Rattle.machine.proofs.Sound.{sound-facts}
@@ -33,9 +32,9 @@ use Rattle.event.specs.declared.Event.{Event}
 use Rattle.event.specs.Parsed.{ruled}
 use Rattle.record.specs.Record.{recordBytesOf}
 use Rattle.place.specs.Placed.{requestedIn, arrivedIn, placedIn}
+use Rattle.place.proofs.Ways.{arrive-none}
 use Rattle.place.proofs.Written.{placed-written}
 use Rattle.quick.specs.Quick.{Ready}
-use Rattle.quick.proofs.Touched.{agree}
 use Rattle.quick.proofs.Images.{stageIn, flagsIn, requestsIn, noteIn, put-news}
 use Rattle.hold.specs.declared.Held.{Held}
 use Rattle.hold.specs.Held.{shown, Steady, stageAfter, outcomeAfter, finished, Puts, Enacts}
@@ -48,10 +47,6 @@ flags-arrived =
     agree 256 (λ k. flagBits (rule.arrived true (processFrom 0 k 0 0))) (λ k. bitOr (k % 8) 2) refl
 
 module _ (s : List ℕ) (k : ℕ) (leaves : Bool) where
-  pub arrive-none : not leaves ≡ true → s ≡ arrivedIn s k leaves
-  unfolding arrivedIn
-  arrive-none h = rw (not-true leaves h)
-
   pub arrive-some : {note : ℕ} {t : List ℕ} → Bytes s → not leaves ≡ false → note ≡ noteIn s k
       → t ≡ splice s (recordAt k)
       (recordBytesOf (stageIn s k) (bitOr (flagsIn s k % 8) 2) (requestsIn s k) note)

@@ -1,19 +1,17 @@
 -- Each part of a put on bytes is that part of the rule, at any stage. The answers of lower functions are variables here,
 -- each with the value that it is known to be. Assumes nothing.
-use Prim.Native.Nat.{ℕ, suc, pred, _*_, _/_, _≤_, _<_}
-use mathlib.Core.Path.{_≡_, refl, sym, ap, _∙_}
-use mathlib.Core.Bool.{Bool, true, false, not, cond, _||_}
+use Prim.Native.Nat.{ℕ, suc, pred, _*_, _/_, _<_}
+use mathlib.Core.Path.{_≡_, sym, _∙_}
+use mathlib.Core.Bool.{Bool, true, false, not}
 use Rattle.machine.specs.declared.Pair.{Pair}
 use Rattle.machine.specs.declared.Marked.{Marked}
 use Rattle.machine.specs.declared.Envelope.{Envelope}
-use Rattle.machine.specs.declared.Reaction.{Reaction}
 use Rattle.machine.specs.declared.Outcome.the-variants.{Moved}
-use Rattle.machine.specs.Bytes.{bitOf}
 use Rattle.machine.specs.Fields.{Status, none, for, with, either, count, withCount, withMarker, withMarked, processOf}
 use Rattle.machine.specs.Image.{pairOf}
 use Rattle.machine.specs.Events as rule
 use Rattle.hold.specs.declared.Held.{Held}
-use Rattle.hold.specs.Held.{shown, Does, Steady, markedBits, unmarkedBits}
+use Rattle.hold.specs.Held.{shown, Does, markedBits, unmarkedBits}
 use Rattle.hold.proofs.Bits.{Pairs, unasked, marked-full, marked-empty, unmarked-full, unmarked-empty}
 
 -- the three parts together

@@ -1,4 +1,5 @@
--- A put with the envelope, each arm of its decision by stage, and the stages that are left. Assumes nothing.
+-- A put with the envelope: each arm of its decision by stage is that arm of the rule, and the stages that no arm names
+-- do no more. Assumes nothing.
 use Prim.Native.Nat.{ℕ, zero, suc, _<_}
 use mathlib.Core.Path.{_≡_, refl, sym, ap, subst, _∙_}
 use mathlib.Core.Bool.{Bool, true, false, not, cond, Bool·beq, true≢false}
@@ -12,7 +13,7 @@ use Rattle.machine.specs.Fields.{Status, full, empty, withStage}
 use Rattle.machine.specs.Events as rule
 use Rattle.put.proofs.Stages.{at-else}
 use Rattle.hold.specs.declared.Held.{Held}
-use Rattle.hold.specs.Held.{shown, Does, Waits, Steady, finished, Puts}
+use Rattle.hold.specs.Held.{shown, Does, Waits, finished, Puts}
 
 -- waiting, both ways
 pub waits-same : (s : Status) (h : Held) → Bool·beq (h .envelope .full) s ≡ true → Waits s h h

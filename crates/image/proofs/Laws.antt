@@ -1,4 +1,5 @@
--- The fresh ring call: refused, and done. Assumes nothing.
+-- The two ends of the fresh ring call are the rule's: a verdict that refuses keeps the buffer, and a fine one gives the
+-- fresh image. Assumes nothing.
 use Prim.Native.Nat.{ℕ}
 use mathlib.Core.Path.{_≡_, _∙_}
 use mathlib.Core.List.{List, []}

@@ -1,6 +1,7 @@
 -- Every rule of the image and every cause of a refusal is shown to bite: one list of inputs, each with the answer that
 -- document 01 gives it, and one theorem that the checker computes. Assumes nothing.
-use Prim.Native.Nat.{ℕ, _+_, _*_}
+use Prim.Native.Nat.{ℕ, _*_}
+use Prim.Native.String.{String}
 use mathlib.Core.Path.{_≡_, refl}
 use mathlib.Core.Bool.{true}
 use mathlib.Core.List.{List, [], _∷_, _++_}
@@ -14,6 +15,8 @@ use Rattle.machine.specs.Refusals.{sizeVerdict, imageVerdict, listVerdic
 use Rattle.machine.specs.Answers.{Answer, freshAnswer, freshImage, stepAnswer, stepImage}
 use Rattle.machine.specs.Answers.{runAnswer, runImage, runLedger, stoppedAnswer, writeAnswer, writeOutput}
 use Rattle.machine.specs.Answers.{readAnswer, readOutput, readVerdict, writeVerdict, runVerdict}
+use Rattle.machine.specs.Text.{text}
+use Rattle.machine.specs.Report.{reportText, reportAnswer, reportOutput}
 use Rattle.machine.proofs.Computed.{rules}
 use Rattle.machine.proofs.Cases.{Case, case, met, done, refused, event, copies}
 use Rattle.machine.proofs.Edges.{edges, edgeCases, altered, having, without}
@@ -173,11 +176,57 @@ writeCases =
     ∷ case (writeAnswer 2 (event 2 0 7) []) (refused 5 0)
     ∷ []
 
--- ---- lent buffers
+-- ---- ringrun
 
--- a buffer as a call leaves it, as the values of an answer
+-- bytes as the values of an answer
 abbrev leaves : List ℕ → Answer
 leaves buffer = done buffer
+
+-- for this input ringrun writes this text
+abbrev says : List ℕ → String → Case
+says input wanted = case (leaves (reportText input)) (leaves (text wanted))
+
+-- N = 2, home 0, and a tape
+abbrev two : List ℕ → List ℕ
+two tape = 2 ∷ 0 ∷ tape
+
+-- bytes for one more than 64 blocks
+abbrev tooMany : List ℕ
+tooMany = replicate (512 * 65) 0
+
+abbrev reportCases : List Case
+reportCases =
+    says [] "refused 1 at 0\n"
+    ∷ says (1 ∷ 0 ∷ []) "refused 1 at 0\n"
+    ∷ says (65 ∷ 0 ∷ fills) "refused 1 at 0\n"
+    ∷ says (64 ∷ 64 ∷ fills) "refused 2 at 0\n"
+    ∷ says (64 ∷ 63 ∷ fills) "puts 0 gets 0 fills 0 takes 0 sent 0 got 0 idle 1\nstopped\n"
+    ∷ says (two (block 0 2 (event 1 0 7 ++ event 1 3 0)))
+    "puts 1 gets 0 fills 0 takes 0 sent 0 got 0 idle 0\nmoving\n"
+    -- a missing home is 0; no block is 6
+    ∷ says (2 ∷ []) "refused 6 at 0\n"
+    ∷ says (two []) "refused 6 at 0\n"
+    ∷ says (two (fills ++ (0 ∷ []))) "refused 6 at 0\n"
+    ∷ says (two (take 511 fills)) "refused 6 at 0\n"
+    ∷ says (two (block 0 63 (puts 63) ++ damaged 8 0 (block 1 1 (event 1 0 7)))) "refused 7 at 1\n"
+    ∷ says (two (block 0 63 (puts 63) ++ block 0 1 (event 1 0 7))) "refused 8 at 1\n"
+    ∷ says (two (block 0 63 (puts 63) ++ block 1 2 (event 1 0 7 ++ event 1 1 7))) "refused 5 at 64\n"
+    ∷ says (two (block 0 63 (puts 63) ++ block 1 1 (event 1 0 7 ++ event 1 0 7))) "refused 9 at 1\n"
+    -- 64 blocks are looked at, of which the first has count 0; more are 6, after 1 and 2
+    ∷ says (two (replicate (512 * 64) 0)) "refused 8 at 0\n"
+    ∷ says (two (0 ∷ replicate (512 * 64) 0)) "refused 6 at 0\n"
+    ∷ says (two tooMany) "refused 6 at 0\n"
+    ∷ says (1 ∷ 0 ∷ tooMany) "refused 1 at 0\n"
+    ∷ says (2 ∷ 2 ∷ tooMany) "refused 2 at 0\n"
+    -- 1 before 2 and 6, 2 before 6
+    ∷ says (1 ∷ 1 ∷ []) "refused 1 at 0\n"
+    ∷ says (2 ∷ 2 ∷ []) "refused 2 at 0\n"
+    -- the output: the text of no input has 15 bytes
+    ∷ case (reportAnswer [] (replicate 14 0)) (refused 10 0)
+    ∷ case (reportAnswer [] (replicate 15 0)) (done (15 ∷ []))
+    ∷ []
+
+-- ---- lent buffers
 
 abbrev spare : List ℕ
 spare = replicate 20 255
@@ -199,6 +248,8 @@ bufferCases =
     (leaves (block 0 1 (event 1 0 7) ++ spare))
     ∷ case (leaves (readOutput 2 (block 0 1 (event 2 0 7)) spare)) (leaves spare)
     ∷ case (leaves (readOutput 2 (block 0 1 (event 1 0 7)) spare)) (leaves (event 1 0 7 ++ replicate 12 255))
+    ∷ case (leaves (reportOutput [] (replicate 14 255))) (leaves (replicate 14 255))
+    ∷ case (leaves (reportOutput [] spare)) (leaves (text "refused 1 at 0\n" ++ replicate 5 255))
     ∷ []
 
 -- ---- all of them
@@ -206,7 +257,8 @@ bufferCases =
 abbrev pub cases : List Case
 cases =
     edgeCases edges
-    ++ (freshCases ++ (imageCases ++ (stepCases ++ (tapeCases ++ (runCases ++ (writeCases ++ bufferCases))))))
+    ++ (freshCases
+    ++ (imageCases ++ (stepCases ++ (tapeCases ++ (runCases ++ (writeCases ++ (reportCases ++ bufferCases)))))))
 
 pub every-rule-bites : met cases ≡ true
 unfolding rules mayFill

@@ -14,6 +14,11 @@ pub bit-le : (b : Bool) → bit b ≤ 1
 bit-le true = lit≤ tt
 bit-le false = lit≤ tt
 
+-- one that counts is on
+pub bit-on : (b : Bool) → 1 ≤ bit b → b ≡ true
+bit-on true some = refl
+bit-on false some = absurd (omega arith)
+
 -- a bit as a number, and back
 pub bit-is : (b : Bool) (x : ℕ) → x ≡ bit b → eqb x 1 ≡ b
 bit-is true x e = rw e

@@ -1,14 +1,14 @@
 -- Laws of bytes, wider numbers and splices. Assumes nothing.
-use Prim.Native.Nat.{ℕ, zero, suc, _+_, _-_, _*_, _/_, _%_, _^_, _≤_, _<_}
+use Prim.Native.Nat.{ℕ, zero, suc, _+_, _*_, _/_, _%_, _^_, _≤_, _<_}
 use mathlib.Core.Path.{_≡_, refl, sym, ap, _∙_}
 use mathlib.Core.Bool.{Bool, true, false, _&&_, and-true}
 use mathlib.Core.List.{List, [], _∷_, _++_, append-assoc}
 use mathlib.Core.Logic.{_⊎_, inl, inr}
 use native.Mathlib.Omega.{arith}
 use native.Mathlib.Numerals.{add-one, towards-suc}
-use lib.ListN.{length, getD, set, take, drop, length-append, length-take, length-drop, List·getD-append}
+use lib.ListN.{length, getD, set, take, drop, length-append, length-take, length-drop}
 use lib.ListN.{List·getD-eq-default, drop-of-length-le}
-use lib.Seq.{sets-eq, getD-append-add, getD-take, getD-drop, length-take-le, drop-cons, take-append-add}
+use lib.Seq.{sets-eq, length-take-le, drop-cons, take-append-add}
 use lib.Seq.{drop-append-add, drop-append-seam, take-append-seam, drop-drop, take-nil}
 use lib.Dec.{eqb, ltb}
 use lib.Pow.{shr-shr, shr-lt}
@@ -157,37 +157,6 @@ module _ (s : List ℕ) (at : ℕ) (bs : List ℕ) (fits : at + length bs ≤ le
   pub length-splice : length (splice s at bs) ≡ length s
   unfolding splice
   length-splice = simp (length-append, length-take, length-drop) (omega arith)
-
-  pub splice-in : (k : ℕ) → k < length bs → getD (splice s at bs) (at + k) 0 ≡ getD bs k 0
-  unfolding splice
-  splice-in k h =
-      let e : length (take at s) ≡ at = length-take-le at s (omega arith) in
-      let f : at + k ≡ length (take at s) + k = omega arith in
-      rw (
-        f,
-        getD-append-add (take at s) (bs ++ drop (at + length bs) s) k 0,
-        List·getD-append bs (drop (at + length bs) s) 0 k h,
-      )
-
-  pub splice-before : (j : ℕ) → j < at → getD (splice s at bs) j 0 ≡ getD s j 0
-  unfolding splice
-  splice-before j h =
-      let e : length (take at s) ≡ at = length-take-le at s (omega arith) in
-      let f : j < length (take at s) = omega arith in
-      List·getD-append (take at s) (bs ++ drop (at + length bs) s) 0 j f ∙ getD-take at s j 0 h
-
-  pub splice-after : (j : ℕ) → at + length bs ≤ j → getD (splice s at bs) j 0 ≡ getD s j 0
-  unfolding splice
-  splice-after j h =
-      let e : length (take at s) ≡ at = length-take-le at s (omega arith) in
-      let rest = j - (at + length bs) in
-      let f : j ≡ length (take at s) + (length bs + rest) = omega arith in
-      let g : at + length bs + rest ≡ j = omega arith in
-      ap (λ (m : ℕ). getD (take at s ++ (bs ++ drop (at + length bs) s)) m 0) f
-      ∙ getD-append-add (take at s) (bs ++ drop (at + length bs) s) (length bs + rest) 0
-      ∙ getD-append-add bs (drop (at + length bs) s) rest 0
-      ∙ getD-drop (at + length bs) s rest 0
-      ∙ ap (λ (m : ℕ). getD s m 0) g
 
 -- over the second of two lists
 pub splice-right : (a b : List ℕ) (k : ℕ) (bs : List ℕ) → splice (a ++ b) (length a + k) bs ≡ a ++ splice b k bs

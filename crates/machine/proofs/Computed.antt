@@ -25,6 +25,9 @@ use Rattle.machine.specs.Answers.{freshVerdict, freshAnswer, freshImage,
 use Rattle.machine.specs.Answers.{stoppedAnswer}
 use Rattle.machine.specs.Answers.{runEvents, runRecords, runVerdict, runAnswer, runImage, runLedger}
 use Rattle.machine.specs.Answers.{writeVerdict, writeAnswer, writeOutput, readVerdict, readAnswer, readOutput}
+use Rattle.machine.specs.Text.{text, digits, decimal, line}
+use Rattle.machine.specs.Report.{recordLine, recordLines, countsLine, lastLine, refusalLine, fewVerdict}
+use Rattle.machine.specs.Report.{reportVerdict, ranText, reportText, reportAnswer, reportOutput}
 
 unfoldable pub ofBytes : Bool
 unfolding littleEndian number bytes allZero zeros splice
@@ -82,6 +85,18 @@ unfoldable pub ofTapeCalls : Bool
 unfolding writeVerdict writeAnswer writeOutput readVerdict readAnswer readOutput
 ofTapeCalls = true
 
+unfoldable pub ofCalls : Bool
+unfolding ofImageCalls ofRunCall ofTapeCalls
+ofCalls = true
+
+unfoldable pub ofText : Bool
+unfolding text digits decimal line recordLine recordLines countsLine lastLine refusalLine
+ofText = true
+
+unfoldable pub ofReport : Bool
+unfolding ofText fewVerdict reportVerdict ranText reportText reportAnswer reportOutput
+ofReport = true
+
 unfoldable pub rules : Bool
-unfolding ofBytes ofLists ofImage ofSound ofEvents ofRun ofBalance ofTape ofBlocks ofImageCalls ofRunCall ofTapeCalls
+unfolding ofBytes ofLists ofImage ofSound ofEvents ofRun ofBalance ofTape ofBlocks ofCalls ofReport
 rules = true

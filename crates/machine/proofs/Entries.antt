@@ -9,6 +9,8 @@ use Rattle.machine.specs.Lists.{join}
 use Rattle.machine.specs.Tape.{tapeOf, check, covered, blockCheck}
 use Rattle.machine.specs.Answers.{freshAnswer, freshImage, stepAnswer, stepImage, runAnswer, runImage}
 use Rattle.machine.specs.Answers.{runLedger, stoppedAnswer, writeAnswer, readAnswer}
+use Rattle.machine.specs.Text.{text}
+use Rattle.machine.specs.Report.{reportText}
 use Rattle.machine.proofs.Computed.{rules}
 use Rattle.machine.proofs.Cases.{done, refused, event, copies}
 
@@ -37,7 +39,7 @@ ledger = replicate 49 255
 unfoldable pub mayFill : List ℕ
 mayFill = (2 ∷ replicate 15 0) ++ (replicate 8 0 ++ (3 ∷ 1 ∷ 0 ∷ 0 ∷ bytes 4 7))
 
--- the whole list from the fresh ring: counts, ledger and stopped
+-- the whole list from the fresh ring: counts, ledger and stopped, and what ringrun prints
 pub entry-1 :
     (runAnswer ring (tapeOf (firstTen ++ lastTen)) ledger ≡ done (1 ∷ 1 ∷ 1 ∷ 1 ∷ 1 ∷ 1 ∷ 0 ∷ 4 ∷ []))
     × (runLedger ring (tapeOf (firstTen ++ lastTen)) ledger
@@ -46,8 +48,11 @@ pub entry-1 :
     ++ ((17 ∷ 0 ∷ 0 ∷ 0 ∷ 0 ∷ 3 ∷ 0 ∷ 0 ∷ 7 ∷ 0 ∷ 0 ∷ 0 ∷ [])
     ++ (19 ∷ 0 ∷ 0 ∷ 0 ∷ 0 ∷ 5 ∷ 0 ∷ 0 ∷ 0 ∷ 0 ∷ 0 ∷ 0 ∷ 255 ∷ []))))
     × (stoppedAnswer (runImage ring (tapeOf (firstTen ++ lastTen)) ledger) ≡ done (1 ∷ []))
+    × (reportText (2 ∷ 0 ∷ tapeOf (firstTen ++ lastTen))
+    ≡ text "7 1 fill 7\n14 1 sent 0\n17 0 take 7\n19 0 got 0\n"
+    ++ (text "puts 1 gets 1 fills 1 takes 1 sent 1 got 1 idle 0\n" ++ text "stopped\n"))
 unfolding rules ring ledger firstTen lastTen
-entry-1 = (refl, refl, refl)
+entry-1 = (refl, refl, refl, refl)
 
 -- its last image, all 32 bytes
 pub entry-2 :
@@ -60,8 +65,10 @@ entry-2 = refl
 pub entry-3 :
     (stoppedAnswer (runImage ring (tapeOf firstTen) ledger) ≡ done (1 ∷ []))
     × (runAnswer ring (tapeOf firstTen) ledger ≡ done (1 ∷ 0 ∷ 1 ∷ 0 ∷ 0 ∷ 0 ∷ 0 ∷ 1 ∷ []))
+    × (reportText (2 ∷ 0 ∷ tapeOf firstTen)
+    ≡ text "7 1 fill 7\n" ++ (text "puts 1 gets 0 fills 1 takes 0 sent 0 got 0 idle 0\n" ++ text "stopped\n"))
 unfolding rules ring ledger firstTen
-entry-3 = (refl, refl)
+entry-3 = (refl, refl, refl)
 
 -- 1.7 on a fresh ring is idle and changes no byte
 pub entry-4 : (stepAnswer ring (event 1 7 0) ≡ done (0 ∷ 0 ∷ [])) × (stepImage ring (event 1 7 0) ≡ ring)

@@ -2,7 +2,7 @@
 -- one process. Assumes nothing.
 use Prim.Native.Nat.{ℕ, _<_}
 use mathlib.Core.Path.{_≡_}
-use mathlib.Core.Bool.{Bool, true, false, _&&_}
+use mathlib.Core.Bool.{true, false, _&&_}
 use lib.ListN.{length}
 use lib.Dec.{leb}
 use Rattle.machine.specs.declared.Envelope.{Envelope}
@@ -13,7 +13,7 @@ use Rattle.machine.specs.Image.{State}
 use Rattle.machine.specs.Stages.{lastStage}
 use Rattle.machine.specs.Sound.{markFits, noteFits, stageFits, stagesFit, restFits}
 use Rattle.machine.specs.Events.{processAt}
-use Rattle.machine.proofs.Lists.{and-first, and-second, all-at}
+use Rattle.machine.proofs.Lists.{and-first, and-second, and-both, all-at}
 use Rattle.machine.proofs.Sound.{RestFacts, rest-facts}
 use Rattle.machine.proofs.Written.{envelopeFits, processFits, stateFits}
 use Rattle.machine.proofs.Settled.{Fits}
@@ -73,11 +73,7 @@ fits-at st f i h =
     marks p fulls empties true = fulls
     marks p fulls empties false = empties
 
--- two tests that hold
-both-true : (a b : Bool) → a ≡ true → b ≡ true → a && b ≡ true
-both-true a b one other = rw (one, other)
-
 -- and back, for the rules on the record alone
-pub fits-process : (e : Envelope) (p : Process) → Fits e p → processFits p ≡ true
-fits-process e p f =
-    both-true _ _ (both-true _ _ (both-true _ _ (f .range) (f .marked full)) (f .marked empty)) (f .note-fits)
+pub fits-record : (e : Envelope) (p : Process) → Fits e p → processFits p ≡ true
+fits-record e p f =
+    and-both _ _ (and-both _ _ (and-both _ _ (f .range) (f .marked full)) (f .marked empty)) (f .note-fits)

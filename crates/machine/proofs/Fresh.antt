@@ -1,6 +1,6 @@
 -- The fresh ring: its bytes as code writes them, and that it is sound. Assumes nothing.
-use Prim.Native.Nat.{ℕ, zero, suc, _+_, _*_, _<_}
-use mathlib.Core.Path.{_≡_, refl, sym, _∙_}
+use Prim.Native.Nat.{ℕ, zero, suc, _+_, _*_, _≤_, _<_}
+use mathlib.Core.Path.{_≡_, refl, sym, ap, _∙_}
 use mathlib.Core.Bool.{Bool, true, false}
 use mathlib.Core.List.{List, _++_}
 use native.Mathlib.Omega.{arith}
@@ -15,7 +15,7 @@ use Rattle.machine.specs.Bytes.{bit, bytes, splice}
 use Rattle.machine.specs.Lists.{all}
 use Rattle.machine.specs.Ring.{imageLength, recordAt}
 use Rattle.machine.specs.Fields.{Status, full, empty, none, for, blank, withHave}
-use Rattle.machine.specs.Image.{headerBytes, processBytes, recordBytes, imageWith, sizeIn}
+use Rattle.machine.specs.Image.{headerBytes, processBytes, recordBytes, imageWith, sizeIn, stateIn}
 use Rattle.machine.specs.Sound.{places, stageFits, stagesFit, markedSet, restFits, sound}
 use Rattle.machine.specs.Fresh.{freshState}
 use Rattle.machine.specs.Events.{processAt}
@@ -24,7 +24,7 @@ use Rattle.machine.specs.Answers.{freshVerdict, freshImage}
 use Rattle.machine.proofs.Lists.{all-at}
 use Rattle.machine.proofs.Refusals.{SizeFits, fresh-fine, image-whole}
 use Rattle.machine.proofs.Image.{image-pieces, length-written, size-written}
-use Rattle.machine.proofs.Readback.{InRange}
+use Rattle.machine.proofs.Readback.{InRange, read-state}
 use Rattle.machine.proofs.Written.{processFits, stateFits, sound-written}
 
 -- ---- as bytes
@@ -160,23 +160,28 @@ fresh-in-range n k =
           rw (eqb-true (processAt (freshProcesses n k) i .note) 0 noted) (lit< tt);
     }
 
--- ---- what the fresh ring call leaves is sound
+-- ---- what the fresh ring call leaves is the fresh state, written, and sound
 
-pub fresh-accepted : (n k : ℕ) (s : List ℕ) → freshVerdict n k s ≡ Fine → imageVerdict (freshImage n k s) ≡ Fine
-unfolding freshImage
-fresh-accepted n k s fine =
-    let facts = fresh-fine n k s fine in
-    let st = freshState n k in
-    let image = imageWith s st in
-    let long : length st.processes ≡ n = length-fresh n k in
-    let size : sizeIn image ≡ n = size-written s st ∙ long in
-    let same : length image ≡ length s = length-written s st (omega (arith, facts .room)) in
-    let fits : sound image ≡ true = sound-written s st (fresh-in-range n k) ∙ fresh-fits n k (facts .below) in
-    let sized : SizeFits (sizeIn image) = record {
-      least = omega (arith, facts .size);
-      most = omega (
-        arith,
-        facts .size,
-      );
-    } in
-    rw fine (image-whole image (omega (arith, facts .room)) sized (omega (arith, facts .room)) ∙ rw fits)
+module _ (n k : ℕ) (s : List ℕ) (fine : freshVerdict n k s ≡ Fine) where
+  pub fresh-written : freshImage n k s ≡ imageWith s (freshState n k)
+  unfolding freshImage
+  fresh-written = rw fine
+
+  pub fresh-size : sizeIn (freshImage n k s) ≡ n
+  fresh-size = ap sizeIn fresh-written ∙ size-written s (freshState n k) ∙ length-fresh n k
+
+  pub fresh-state : stateIn (freshImage n k s) ≡ freshState n k
+  fresh-state = ap stateIn fresh-written ∙ read-state s (freshState n k) (fresh-in-range n k)
+
+  pub fresh-accepted : imageVerdict (freshImage n k s) ≡ Fine
+  fresh-accepted =
+      let facts = fresh-fine n k s fine in
+      let st = freshState n k in
+      let image = freshImage n k s in
+      let same : length image ≡ length s =
+      ap length fresh-written ∙ length-written s st (omega (arith, facts .room, length-fresh n k)) in
+      let fits : sound image ≡ true =
+      ap sound fresh-written ∙ sound-written s st (fresh-in-range n k) ∙ fresh-fits n k (facts .below) in
+      let sized : SizeFits (sizeIn image) = rw fresh-size (facts .size) in
+      let room : imageLength (sizeIn image) ≤ length image = rw (fresh-size, same) (facts .room) in
+      image-whole image (omega arith) sized room ∙ rw fits

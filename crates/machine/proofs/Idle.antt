@@ -13,7 +13,7 @@ use Rattle.machine.specs.declared.Process.{Process}
 use Rattle.machine.specs.declared.Reaction.{Reaction}
 use Rattle.machine.specs.declared.Outcome.{Outcome}
 use Rattle.machine.specs.declared.Outcome.the-variants.{Moved, Sent, Got}
-use Rattle.machine.specs.Fields.{Status, full, none, for, blank}
+use Rattle.machine.specs.Fields.{Status, none, for, blank}
 use Rattle.machine.specs.Fields.{withNews}
 use Rattle.machine.specs.Image.{State}
 use Rattle.machine.specs.Stages.{told}

@@ -31,7 +31,7 @@ use Rattle.machine.proofs.Refusals.{SizeFits, image-fine, image-whole}
 use Rattle.machine.proofs.Sums.{part-le, flagsSet, marksFor, places-sum, marked-sum, count-sum, count-le}
 use Rattle.machine.proofs.Sums.{mark-counted}
 use Rattle.machine.proofs.Settled.{Settled}
-use Rattle.machine.proofs.Facts.{StateFacts, state-facts, facts-state, fits-at, fits-process}
+use Rattle.machine.proofs.Facts.{StateFacts, state-facts, facts-state, fits-at, fits-record}
 use Rattle.machine.proofs.Reactions.{react-settled}
 use Rattle.machine.proofs.Placed.{all-set, length-placed, all-placed, sum-placed, places-placed}
 use Rattle.machine.proofs.Placed.{stages-set}
@@ -76,7 +76,7 @@ module _ (st : State) (v : Event) (below : v .process < length (st .processes)) 
       let i = v .process in
       let r = reaction st v in
       let local = settled-at few f in
-      let own = fits-process (r .envelope) (r .process) (local .fits) in
+      let own = fits-record (r .envelope) (r .process) (local .fits) in
       record {
         envelope = local .fits .envelope;
         processes =

@@ -39,3 +39,5 @@ pub mod Runs
 pub mod Tallies
 pub mod Balance
 pub mod Alone
+pub mod Text
+pub mod Report

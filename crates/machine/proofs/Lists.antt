@@ -1,7 +1,7 @@
--- Laws of lists by index and by element. Assumes nothing.
+-- Laws of tests, and of lists by index and by element. Assumes nothing.
 use Prim.Native.Nat.{ℕ, zero, suc, _+_, _<_}
 use mathlib.Core.Path.{_≡_, refl, sym, ap, ap₂, _∙_, subst}
-use mathlib.Core.Bool.{Bool, true, false, not, _&&_, _||_, and-true, and-assoc, true≢false, false≢true}
+use mathlib.Core.Bool.{Bool, true, false, not, _&&_, _||_, Bool·beq, and-true, and-assoc, true≢false, false≢true}
 use mathlib.Core.List.{List, [], _∷_, _++_}
 use native.Mathlib.Omega.{arith}
 use native.Mathlib.Numerals.{add-one}
@@ -10,7 +10,7 @@ use lib.Dec.{eqb}
 use borrow.Author.Tests.{eqb-true, eqb-false}
 use Rattle.machine.specs.Lists.{tabulate, every, all}
 
--- ---- conjunctions taken apart
+-- ---- conjunctions taken apart, and made
 
 pub and-first : (a b : Bool) → a && b ≡ true → a ≡ true
 and-first true b e = refl
@@ -19,6 +19,17 @@ and-first false b e = e
 pub and-second : (a b : Bool) → a && b ≡ true → b ≡ true
 and-second true b e = e
 and-second false b e = absurd (let z : _≡_ {A = ℕ} 0 1 = cc in omega arith)
+
+pub and-both : (a b : Bool) → a ≡ true → b ≡ true → a && b ≡ true
+and-both a b one other = rw (one, other)
+
+-- ---- two truths that a test finds the same
+
+pub same-bool : (a b : Bool) → Bool·beq a b ≡ true → a ≡ b
+same-bool true true e = refl
+same-bool true false e = absurd (false≢true e)
+same-bool false true e = absurd (false≢true e)
+same-bool false false e = refl
 
 -- ---- alternatives that fail, and one test that follows from another
 
@@ -76,6 +87,14 @@ every-at (suc n) f e i h = go (eqb i n) refl (λ lower. every-at n f (and-first 
     go false q below =
         let ne = eqb-false i n q in
         below (omega arith)
+
+-- two tests that agree at every number below a bound, and two numbers
+pub alike : (bound : ℕ) (f g : ℕ → Bool) → every bound (λ k. Bool·beq (f k) (g k)) ≡ true → (n : ℕ) → n < bound
+    → f n ≡ g n
+alike bound f g test n h = same-bool (f n) (g n) (every-at bound (λ k. Bool·beq (f k) (g k)) test n h)
+
+pub agree : (bound : ℕ) (f g : ℕ → ℕ) → every bound (λ k. eqb (f k) (g k)) ≡ true → (n : ℕ) → n < bound → f n ≡ g n
+agree bound f g test n h = eqb-true (f n) (g n) (every-at bound (λ k. eqb (f k) (g k)) test n h)
 
 pub every-same : (n : ℕ) (f g : ℕ → Bool) → ((i : ℕ) → i < n → f i ≡ g i) → every n f ≡ every n g
 unfolding every

@@ -5,7 +5,6 @@ use mathlib.Core.Path.{_≡_, refl, _∙_}
 use mathlib.Core.Bool.{Bool, false, not, cond, Bool·beq}
 use mathlib.Core.Logic.{_⊎_, inl, inr}
 use lib.Dec.{eqb}
-use borrow.Author.Tests.{eqb-true}
 use Rattle.machine.specs.declared.Pair.{Pair}
 use Rattle.machine.specs.declared.Envelope.{Envelope}
 use Rattle.machine.specs.declared.Process.{Process}
@@ -16,11 +15,11 @@ use Rattle.machine.specs.Stages.{told}
 use Rattle.machine.specs.Events.{becomes, changed, idle, ask, pass, markFor, mark, unmark, clear, wanted}
 use Rattle.machine.specs.Events.{leave, heeding, forward, ends, stroll, wait, endPut, putAt}
 use Rattle.machine.specs.Events.{startPut, startGet, work, signal, receive, hear, put, react}
-use Rattle.machine.proofs.Ways.{by-test, choice, pass-keeps, every-stage, every-code}
+use Rattle.machine.proofs.Ways.{choice, pass-keeps, every-stage, every-code}
 
 -- a choice between two that agree in something
-alike : {A : Type 0} (f : Reaction → A) (b : Bool) (x y : Reaction) {a : A} → f x ≡ a → f y ≡ a → f (cond b x y) ≡ a
-alike f b x y {a} hx hy = choice (λ r. f r ≡ a) b x y hx hy
+in-both : {A : Type 0} (f : Reaction → A) (b : Bool) (x y : Reaction) {a : A} → f x ≡ a → f y ≡ a → f (cond b x y) ≡ a
+in-both f b x y {a} hx hy = choice (λ r. f r ≡ a) b x y hx hy
 
 -- what goes to the left, and what to the right
 abbrev asksOf : Reaction → Pair
@@ -33,7 +32,7 @@ leavesOf r = r .leaves
 
 ask-leaves : (s : Status) (r : Reaction) → ask s r .leaves ≡ r .leaves
 unfolding ask
-ask-leaves s r = alike leavesOf (for (r .process .itself) s) r _ refl refl
+ask-leaves s r = in-both leavesOf (for (r .process .itself) s) r _ refl refl
 
 pass-leaves : (r : Reaction) → pass r .leaves ≡ r .leaves
 pass-leaves r = pass-keeps (λ (t : Reaction). t .leaves ≡ r .leaves) (λ s t same. ask-leaves s t ∙ same) r refl
@@ -42,19 +41,19 @@ pass-leaves r = pass-keeps (λ (t : Reaction). t .leaves ≡ r .leaves) (λ s t 
 
 mark-asks : (r : Reaction) → mark r .asks ≡ r .asks
 unfolding mark markFor
-mark-asks r = alike asksOf (for (r .process .mark) (not (r .envelope .full))) r _ refl refl
+mark-asks r = in-both asksOf (for (r .process .mark) (not (r .envelope .full))) r _ refl refl
 
 clear-asks : (s : Status) (r : Reaction) → clear s r .asks ≡ r .asks
 unfolding clear unmark
-clear-asks s r = alike asksOf (for (r .process .mark) s) _ _ refl refl
+clear-asks s r = in-both asksOf (for (r .process .mark) s) _ _ refl refl
 
 forward-asks : (r : Reaction) → forward r .asks ≡ r .asks
 unfolding forward leave heeding
-forward-asks r = alike asksOf (wanted (heeding r .envelope)) (leave (heeding r)) (heeding r) refl refl
+forward-asks r = in-both asksOf (wanted (heeding r .envelope)) (leave (heeding r)) (heeding r) refl refl
 
 end-put-asks : (r : Reaction) → endPut r .asks ≡ r .asks
 unfolding endPut ends
-end-put-asks r = alike asksOf (r .leaves) _ _ refl refl
+end-put-asks r = in-both asksOf (r .leaves) _ _ refl refl
 
 -- ---- so a put does one of the two
 
@@ -133,16 +132,3 @@ one-neighbour code m e p =
     every-code OneSide code m e p (inl (start-put-alone e p m .0)) (inl (start-get-alone e p .0))
     (inl (work-alone e p .0)) (inl (signal-alone e p .0)) (inl (receive-alone e p .0))
     (λ s. inl (hear-alone e p s .0)) (put-side e p) (inl refl)
-
--- only a put reaches a neighbour
-pub only-puts : (code m : ℕ) (e : Envelope) (p : Process) → (code ≡ 7 → ⊥) → NoSide (react code m e p)
-unfolding react
-only-puts code m e p other =
-    choice NoSide (eqb code 0) _ _ (start-put-alone e p m)
-    (choice NoSide (eqb code 1) _ _ (start-get-alone e p)
-    (choice NoSide (eqb code 2) _ _ (work-alone e p)
-    (choice NoSide (eqb code 3) _ _ (signal-alone e p)
-    (choice NoSide (eqb code 4) _ _ (receive-alone e p)
-    (choice NoSide (eqb code 5) _ _ (hear-alone e p full)
-    (choice NoSide (eqb code 6) _ _ (hear-alone e p empty)
-    (by-test NoSide (eqb code 7) _ _ (λ is. absurd (other (eqb-true code 7 is))) (λ _. (refl, refl)))))))))

@@ -12,7 +12,7 @@ use Rattle.machine.specs.declared.Process.{Process}
 use Rattle.machine.specs.declared.Reaction.{Reaction}
 use Rattle.machine.specs.declared.Outcome.the-variants.{Moved}
 use Rattle.machine.specs.Bytes.{bit}
-use Rattle.machine.specs.Fields.{Status, full, empty, for, with, count, withCount, withNews, withMark, withMarked}
+use Rattle.machine.specs.Fields.{Status, for, with, count, withCount, withNews, withMark, withMarked}
 use Rattle.machine.specs.Stages.{markable}
 use Rattle.machine.specs.Events.{becomes, changed, ask, pass, markFor, unmark, clear, wanted, leave}
 use Rattle.machine.specs.Events.{heeding}

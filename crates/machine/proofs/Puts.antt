@@ -12,6 +12,7 @@ use Rattle.machine.specs.declared.Reaction.{Reaction}
 use Rattle.machine.specs.Fields.{Status, full, empty, for, count}
 use Rattle.machine.specs.Stages.{plain, markable}
 use Rattle.machine.specs.Events.{ask, pass, mark, clear, forward, ends, stroll, wait, endPut, put}
+use Rattle.machine.proofs.Lists.{same-bool}
 use Rattle.machine.proofs.Sums.{marksFor}
 use Rattle.machine.proofs.Ways.{by-test, by-stage}
 use Rattle.machine.proofs.Owed.{Owed, begun, begun-owed, ask-owed, pass-owed, forward-owed}
@@ -19,7 +20,7 @@ use Rattle.machine.proofs.Owed.{clear-owed}
 use Rattle.machine.proofs.Owed.{forward-mark, clear-mark}
 use Rattle.machine.proofs.Settled.{FitsOf, Fits, Settled, needs, plain-free, marks-follow, at-stage, still}
 use Rattle.machine.proofs.Settled.{waitsFor, waiting-free, mark-waiting, had-at, settle, settle-end}
-use Rattle.machine.proofs.Settled.{other-status, same-status}
+use Rattle.machine.proofs.Settled.{other-status}
 
 -- a mark that may not stand does not
 no-mark : (m a : Bool) → a ≡ false → not m || a ≡ true → m ≡ false
@@ -52,7 +53,7 @@ module _ (e : Envelope) (p : Process) (fits : Fits e p) where
       let free-here : needs (p .stage) ≡ false = ap needs here ∙ waiting-free s in
       by-test (Settled e p) (p .have) _ _
       (λ had. by-test (Settled e p) (Bool·beq (e .full) s) _ _
-      (λ same. still e p fits (fit had (same-status (e .full) s same)) (inr refl))
+      (λ same. still e p fits (fit had (same-bool (e .full) s same)) (inr refl))
       (λ differs.
       let m = mark-waiting e p fits s here (other-status (e .full) s differs) in
       settle e p fits (forward (mark start)) (forward-owed e p (mark start) had m) (λ _. free-here)))

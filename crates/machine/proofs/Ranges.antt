@@ -10,7 +10,7 @@ use Rattle.machine.specs.declared.Process.{Process}
 use Rattle.machine.specs.declared.Outcome.{Outcome}
 use Rattle.machine.specs.declared.Outcome.the-variants.{Sent, Got}
 use Rattle.machine.specs.declared.Reaction.{Reaction}
-use Rattle.machine.specs.Fields.{Status, full, for}
+use Rattle.machine.specs.Fields.{Status, for}
 use Rattle.machine.specs.Stages.{told}
 use Rattle.machine.specs.Events.{ask, markFor, mark, unmark, clear, wanted, leave, heeding}
 use Rattle.machine.specs.Events.{forward, ends, putAt, startPut, startGet, work, signal}

@@ -10,7 +10,7 @@ use borrow.Author.Tests.{eqb-true}
 use Rattle.machine.specs.declared.Envelope.{Envelope}
 use Rattle.machine.specs.declared.Process.{Process}
 use Rattle.machine.specs.Bytes.{bit}
-use Rattle.machine.specs.Fields.{Status, full, for, count, withStage}
+use Rattle.machine.specs.Fields.{Status, for, count, withStage}
 use Rattle.machine.specs.Stages.{lastStage, told, withEmpty, withFull}
 use Rattle.machine.specs.Sound.{noteFits, stageFits}
 use Rattle.machine.specs.Events.{idle, startPut, startGet, work, signal, receive, hear, react}

@@ -1,6 +1,6 @@
 -- Laws of verdicts: what an accepted input is known to have, and each way in which an image or a fresh ring is refused.
 -- Assumes nothing.
-use Prim.Native.Nat.{ℕ, _+_, _≤_, _<_}
+use Prim.Native.Nat.{ℕ, _+_, _*_, _≤_, _<_}
 use mathlib.Core.Path.{_≡_, refl}
 use mathlib.Core.Bool.{Bool, true, false, _&&_}
 use mathlib.Core.List.{List}
@@ -111,6 +111,13 @@ image-fine s e =
       room = unless-le (imageLength (sizeIn s)) (length s) refusal.Short (first-fine c d from-c);
       fits = unless-fine (sound s) refusal.Unsound (second-fine c d from-c);
     }
+
+-- a process of an accepted image is one of 64, and its record lies in the image
+pub process-few : (s : List ℕ) (i : ℕ) → imageVerdict s ≡ Fine → i < sizeIn s → i < 64
+process-few s i fine below = omega (arith, image-fine s fine .size .most)
+
+pub record-within : (s : List ℕ) (i : ℕ) → imageVerdict s ≡ Fine → i < sizeIn s → 24 + 8 * i ≤ length s
+record-within s i fine below = omega (arith, image-fine s fine .room)
 
 -- an event that fits is at a process of the ring
 pub fits-process : (codes n : ℕ) (s : List ℕ) (at : ℕ) → eventFits codes n s at ≡ true → getD s at 0 < n

@@ -58,13 +58,6 @@ other-status true false e = refl
 other-status false true e = refl
 other-status false false e = absurd (true≢false e)
 
--- and the same one
-pub same-status : (a b : Status) → Bool·beq a b ≡ true → a ≡ b
-same-status true true e = refl
-same-status true false e = absurd (false≢true e)
-same-status false true e = absurd (false≢true e)
-same-status false false e = refl
-
 -- a stage that needs the envelope
 abbrev pub needs : ℕ → Bool
 needs stage = withEmpty stage || withFull stage
@@ -84,7 +77,7 @@ waiting-markable true = refl
 waiting-markable false = refl
 
 -- what holds at one stage holds where a test finds it
-found-at : (P : ℕ → Type 0) (k : ℕ) → P k → (stage : ℕ) → eqb stage k ≡ true → P stage
+pub found-at : (P : ℕ → Type 0) (k : ℕ) → P k → (stage : ℕ) → eqb stage k ≡ true → P stage
 found-at P k h stage e = subst P (sym (eqb-true stage k e)) h
 
 -- at the stages that the put thread treats alike

@@ -1,5 +1,5 @@
--- Writing into a sound image: a record or an envelope written changes the state read by just that, and keeps the image
--- the one that its state writes. Assumes nothing.
+-- Writing into a sound image: a record written changes the state read by just that, and keeps the image the one that
+-- its state writes. Assumes nothing.
 use Prim.Native.Nat.{ℕ, _^_, _≤_, _<_}
 use mathlib.Core.Path.{_≡_, refl, sym, ap, _∙_}
 use mathlib.Core.List.{List}
@@ -9,18 +9,17 @@ use lib.ListN.{length, set, length-set}
 use lib.Seq.{getD-set-same, getD-set-other}
 use lib.Dec.{eqb}
 use borrow.Author.Tests.{eqb-true, eqb-false}
-use Rattle.machine.specs.declared.Envelope.{Envelope}
 use Rattle.machine.specs.declared.Process.{Process}
 use Rattle.machine.specs.Ring.{imageLength}
 use Rattle.machine.specs.Fields.{blank}
 use Rattle.machine.specs.Image.{State, envelopeIn, processIn, processesIn, sizeIn, stateIn, imageWith}
-use Rattle.machine.specs.Image.{withProcess, withEnvelope}
+use Rattle.machine.specs.Image.{withProcess}
 use Rattle.machine.specs.Sound.{sound}
 use Rattle.machine.specs.Events.{processAt}
 use Rattle.machine.proofs.Lists.{getD-tabulate}
 use Rattle.machine.specs.Bytes.{Bytes}
 use Rattle.machine.proofs.Walk.{length-processes}
-use Rattle.machine.proofs.Image.{replaced, enveloped, write-process, write-envelope}
+use Rattle.machine.proofs.Image.{replaced, write-process}
 use Rattle.machine.proofs.Readback.{InRange, read-state}
 use Rattle.machine.proofs.Rewrite.{rewrite-image, read-in-range}
 
@@ -58,9 +57,6 @@ replaced-in-range st i p range small =
           length-set (st .processes) i p,
         )))
 
-pub enveloped-in-range : (st : State) (e : Envelope) → InRange st → e .message < 2 ^ 32 → InRange (enveloped st e)
-enveloped-in-range st e range small = record { message = small; notes = range .notes }
-
 -- an image of n processes that is sound, in a buffer of bytes
 module _ (s : List ℕ) (room : imageLength (sizeIn s) ≤ length s) (small : Bytes s) (fits : sound s ≡ true) where
   pub store-process : (i : ℕ) (p : Process) → i < sizeIn s → withProcess s i p ≡ imageWith s (replaced (stateIn s) i p)
@@ -68,18 +64,9 @@ module _ (s : List ℕ) (room : imageLength (sizeIn s) ≤ length s) (small : By
       ap (λ (t : List ℕ). withProcess t i p) (sym (rewrite-image s room small fits))
       ∙ write-process s (stateIn s) i p (omega (arith, length-state s))
 
-  pub store-envelope : (e : Envelope) → withEnvelope s e ≡ imageWith s (enveloped (stateIn s) e)
-  store-envelope e =
-      ap (λ (t : List ℕ). withEnvelope t e) (sym (rewrite-image s room small fits)) ∙ write-envelope s (stateIn s) e
-
   -- one record written is one element of the list replaced
   pub state-after-process : (i : ℕ) (p : Process) → i < sizeIn s → p .note < 2 ^ 32
       → stateIn (withProcess s i p) ≡ replaced (stateIn s) i p
   state-after-process i p h note =
       ap stateIn (store-process i p h)
       ∙ read-state s (replaced (stateIn s) i p) (replaced-in-range (stateIn s) i p (read-in-range s small) note)
-
-  pub state-after-envelope : (e : Envelope) → e .message < 2 ^ 32 → stateIn (withEnvelope s e) ≡ enveloped (stateIn s) e
-  state-after-envelope e message =
-      ap stateIn (store-envelope e)
-      ∙ read-state s (enveloped (stateIn s) e) (enveloped-in-range (stateIn s) e (read-in-range s small) message)

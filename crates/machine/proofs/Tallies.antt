@@ -9,7 +9,7 @@ use lib.ListN.{length, length-append}
 use lib.Dec.{eqb}
 use Rattle.machine.specs.declared.Counts.{Counts}
 use Rattle.machine.specs.declared.Outcome.{Outcome}
-use Rattle.machine.specs.Bytes.{bit, bytes}
+use Rattle.machine.specs.Bytes.{bit}
 use Rattle.machine.specs.Image.{State}
 use Rattle.machine.specs.Events.{Event, outcome, apply}
 use Rattle.machine.specs.Run.{outcomeNumber, recorded, ledgerRecord, ledgerEntry, ledgerFrom, noCounts, counted}

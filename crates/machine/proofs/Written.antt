@@ -1,6 +1,6 @@
 -- Soundness of a state that was written: the bytes' own ranges and zeros come from the writing, so what is left are the
 -- rules on the state itself. Assumes nothing.
-use Prim.Native.Nat.{ℕ, zero, suc, _+_, _^_, _<_}
+use Prim.Native.Nat.{ℕ, zero, suc, _^_, _<_}
 use mathlib.Core.Path.{_≡_, refl, ap, _∙_}
 use mathlib.Core.Bool.{Bool, true, _&&_, _||_, and-true}
 use mathlib.Core.List.{List, _++_}

@@ -16,3 +16,5 @@ pub mod Tape
 pub mod Refusals
 pub mod Answers
 pub mod Host
+pub mod Text
+pub mod Report

@@ -24,7 +24,7 @@ abbrev pub recordsFrom : State → List rule.Event → ℕ
 recordsFrom st vs = countsFrom noCounts st vs .records
 
 -- an event has at most one record
-records-few : (vs : List rule.Event) (st : State) → recordsFrom st vs ≤ length vs
+pub records-few : (vs : List rule.Event) (st : State) → recordsFrom st vs ≤ length vs
 unfolding countsFrom
 records-few [] st = omega arith
 records-few (v ∷ vs) st =

@@ -1,5 +1,5 @@
--- A block written in four stores: number and count, events, zeros, and between them the check of all these. Assumes
--- nothing.
+-- A block written in four stores, number and count, events, zeros, and the check of all these, is the rule's block: the
+-- stores lie apart, and the check is taken of what the rule covers. Assumes nothing.
 use Prim.Native.Nat.{ℕ, _+_, _-_, _*_, _/_, _%_, _≤_, _<_}
 use mathlib.Core.Path.{_≡_, sym, ap, ap₂, _∙_}
 use mathlib.Core.Logic.{_⊎_, inl, inr}

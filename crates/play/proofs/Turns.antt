@@ -1,13 +1,13 @@
 -- One event, each way that it goes: idle, moved without a record, or with one. What lower functions answered is a
 -- variable here, with the value that it is known to be. Assumes nothing.
-use Prim.Native.Nat.{ℕ, _+_, _*_, _≤_, _<_}
-use mathlib.Core.Path.{_≡_, refl, sym, ap, subst, _∙_}
+use Prim.Native.Nat.{ℕ, _*_, _<_}
+use mathlib.Core.Path.{_≡_, refl, ap, _∙_}
 use mathlib.Core.List.{List}
 use native.Mathlib.Omega.{arith}
 use Rattle.machine.specs.declared.Counts.{Counts}
 use Rattle.machine.specs.declared.Outcome.{Outcome}
 use Rattle.machine.specs.declared.Outcome.the-variants.{Idle, Moved, Fill, Take, Sent, Got}
-use Rattle.machine.specs.Image.{sizeIn, stateIn, imageWith}
+use Rattle.machine.specs.Image.{stateIn, imageWith}
 use Rattle.machine.specs.Events.{outcome, apply}
 use Rattle.machine.specs.Run.{outcomeNumber, ledgerEntry, counted}
 use Rattle.machine.proofs.Refusals.{image-fine}

@@ -1,4 +1,5 @@
--- The put's decision by stage: each arm of it, and the stages that are left. Assumes nothing.
+-- The put's decision by stage: each arm of it is that arm of the rule, and the stages that no arm names do no more.
+-- Assumes nothing.
 use Prim.Native.Nat.{ℕ, zero, suc, _+_, _<_}
 use mathlib.Core.Path.{_≡_, _∙_}
 use mathlib.Core.Logic.{_⊎_, inl, inr}

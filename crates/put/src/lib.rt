@@ -3,7 +3,6 @@
 use machine::Envelope;
 use machine::Outcome;
 use machine::Pair;
-use machine::Process;
 use machine::Reaction;
 use status::one_fewer;
 use status::one_more;

@@ -11,12 +11,11 @@ use lib.Seq.{getD-set-other}
 use Rattle.machine.specs.declared.Envelope.{Envelope}
 use Rattle.machine.specs.declared.Process.{Process}
 use Rattle.machine.specs.declared.Reaction.{Reaction}
-use Rattle.machine.specs.declared.Outcome.{Outcome}
 use Rattle.machine.specs.declared.Outcome.the-variants.{Moved}
 use Rattle.machine.specs.declared.Verdict.the-variants.{Fine}
 use Rattle.machine.specs.Bytes.{Bytes, bitOf, number, splice}
 use Rattle.machine.specs.Lists.{every}
-use Rattle.machine.specs.Ring.{left, right, recordAt}
+use Rattle.machine.specs.Ring.{left, recordAt}
 use Rattle.machine.specs.Fields.{none, blank}
 use Rattle.machine.specs.Image.{State, pairOf, processIn, sizeIn, stateIn, processBytes, imageWith, withProcess}
 use Rattle.machine.specs.Stages.{withEmpty, withFull}
@@ -34,9 +33,8 @@ use Rattle.machine.proofs.Refusals.{image-fine}
 use Rattle.machine.proofs.Around.{no-request, no-arrival}
 use Rattle.machine.proofs.Idle.{unchanged}
 use Rattle.record.specs.Record.{recordBytesOf}
-use Rattle.quick.proofs.Open.{alike}
 use Rattle.quick.specs.Quick.{noteAfter, wishAt}
-use Rattle.quick.proofs.Touched.{stageAfter, flagsAfter, requestsAfter, touches}
+use Rattle.quick.proofs.Touched.{stageTouched, flagsTouched, requestsTouched, touches}
 use Rattle.quick.proofs.Passed.{asksBits, requestsPassed, linkAsked, asks-few, link-asked, passing, passes}
 
 -- the bytes of record k, and its note
@@ -150,8 +148,8 @@ module _ (s : List ℕ) (v : Event) (fine : imageVerdict s ≡ Fine) (small : By
   pub touched-written : {t : List ℕ} → v .code < 8 → (v .code ≡ 2 → ⊥) → (v .code ≡ 7 → ⊥)
       → isIdle (outcome st v) ≡ false
       → t ≡ splice s (recordAt i)
-      (recordBytesOf (stageAfter (v .code) (stageIn s i)) (flagsAfter (v .code) (flagsIn s i))
-      (requestsAfter (v .code) (requestsIn s i)) (noteAfter (v .code) (v .message) (noteIn s i)))
+      (recordBytesOf (stageTouched (v .code) (stageIn s i)) (flagsTouched (v .code) (flagsIn s i))
+      (requestsTouched (v .code) (requestsIn s i)) (noteAfter (v .code) (v .message) (noteIn s i)))
       → (outcome st v ≡ Moved) × (t ≡ imageWith s (apply st v))
   unfolding processIn
   touched-written known not-2 not-7 moves wrote =

@@ -1,8 +1,8 @@
 -- An event is possible where the set of the record's possible codes has its code: codes 0 to 3 by the stage, which the
 -- checker goes through, and codes 4 to 7 by a bit of the flags or of the requests. Assumes nothing.
 use Prim.Native.Nat.{ℕ, zero, suc, _+_, _*_, _/_, _%_, _^_, _≤_, _<_}
-use mathlib.Core.Path.{_≡_, refl, sym, _∙_}
-use mathlib.Core.Bool.{Bool, true, false, not, cond, _||_, Bool·beq}
+use mathlib.Core.Path.{_≡_, refl, _∙_}
+use mathlib.Core.Bool.{Bool, true, false, not, cond, _||_}
 use native.Mathlib.Omega.{arith}
 use lib.Dec.{eqb}
 use lib.Pow.{shr-shr}
@@ -16,7 +16,7 @@ use Rattle.machine.specs.Image.{processFrom}
 use Rattle.machine.specs.Fields.{withNews}
 use Rattle.machine.specs.Stages.{told}
 use Rattle.machine.specs.Events.{becomes, idle, startPut, startGet, work, signal, receive, hear, put, react}
-use Rattle.machine.proofs.Lists.{every-at}
+use Rattle.machine.proofs.Lists.{alike}
 use Rattle.machine.proofs.Idle.{idles, put-at-moves}
 use Rattle.quick.specs.Possible.{Possible}
 
@@ -49,17 +49,6 @@ placeOf code = 0x02_0f_0e_01_13_12_11_10 / 2 ^ (8 * code) % 64
 -- whether it is set
 abbrev pub isOpen : ℕ → ℕ → ℕ → ℕ → Bool
 isOpen code stage flags requests = eqb (bitsOf flags requests (codesFrom stage) / 2 ^ placeOf code % 2) 1
-
--- two tests that agree at every number below a bound
-pub alike : (bound : ℕ) (f g : ℕ → Bool) → every bound (λ k. Bool·beq (f k) (g k)) ≡ true → (n : ℕ) → n < bound
-    → f n ≡ g n
-alike bound f g test n h = same (f n) (g n) (every-at bound (λ k. Bool·beq (f k) (g k)) test n h)
-  where
-    same : (a b : Bool) → Bool·beq a b ≡ true → a ≡ b
-    same true true e = refl
-    same true false e = sym e
-    same false true e = e
-    same false false e = refl
 
 -- each bit, whatever the set
 module _ (flags requests set : ℕ) (few : flags ≤ 7) (byte : requests < 256) where

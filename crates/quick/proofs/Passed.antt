@@ -1,17 +1,14 @@
 -- What a put does without the envelope: it asks the left for what it waits for and for what the right has asked, unless
 -- asked already, and clears its news. Its record's bytes and the requests are sums and tables of bits, which the checker
 -- computes for every value of a byte. Assumes nothing.
-use Prim.Native.Nat.{ℕ, zero, suc, _+_, _-_, _*_, _/_, _%_, _≤_, _<_}
+use Prim.Native.Nat.{ℕ, zero, suc, _-_, _*_, _/_, _%_, _≤_, _<_}
 use mathlib.Core.Path.{_≡_, refl, sym, subst}
 use mathlib.Core.Bool.{Bool, true, false, not, cond, _&&_, _||_, Bool·beq, true≢false}
-use mathlib.Core.List.{List}
 use native.Mathlib.Omega.{arith}
 use lib.Bits.{bitAnd, bitOr, and-le-r}
 use lib.Dec.{eqb}
-use borrow.Author.Tests.{eqb-true}
 use Rattle.machine.specs.declared.Pair.{Pair}
 use Rattle.machine.specs.declared.Envelope.{Envelope}
-use Rattle.machine.specs.declared.Process.{Process}
 use Rattle.machine.specs.declared.Reaction.{Reaction}
 use Rattle.machine.specs.declared.Outcome.the-variants.{Moved}
 use Rattle.machine.specs.Bytes.{bitOf}
@@ -20,11 +17,11 @@ use Rattle.machine.specs.Fields.{full, empty, none, processOf, withNews}
 use Rattle.machine.specs.Image.{pairOf, processFrom, flagBits, requestBits, processBytes}
 use Rattle.machine.specs.Stages.{plain}
 use Rattle.machine.specs.Events.{becomes, ask, passFor, pass, stroll, wait, putAt, put, react, requested}
+use Rattle.machine.proofs.Lists.{alike, agree}
 use Rattle.machine.proofs.Bits.{flags-are}
+use Rattle.machine.proofs.Settled.{either-way, found-at, plain-each}
 use Rattle.record.specs.Record.{recordBytesOf}
 use Rattle.quick.specs.Quick.{wishAt}
-use Rattle.quick.proofs.Open.{alike}
-use Rattle.quick.proofs.Touched.{agree}
 
 -- ---- requests as two bits, full below empty
 
@@ -183,19 +180,10 @@ abbrev pub passing : ℕ → Bool
 passing stage = plain stage || eqb stage 2 || eqb stage 7
 
 by-passing : (P : ℕ → Type 0) → P 0 → P 1 → P 6 → P 2 → P 7 → (stage : ℕ) → passing stage ≡ true → P stage
-by-passing P p0 p1 p6 p2 p7 stage h = go (eqb stage 0) refl (eqb stage 1) refl (eqb stage 6) refl (eqb stage 2) refl h
-  where
-    is : (k : ℕ) → P k → eqb stage k ≡ true → P stage
-    is k p e = subst P (sym (eqb-true stage k e)) p
-
-    go : (a : Bool) → eqb stage 0 ≡ a → (b : Bool) → eqb stage 1 ≡ b → (c : Bool) → eqb stage 6 ≡ c
-        → (d : Bool) → eqb stage 2 ≡ d → a || b || c || d || eqb stage 7 ≡ true
-        → P stage
-    go true ea b eb c ec d ed h = is 0 p0 ea
-    go false ea true eb c ec d ed h = is 1 p1 eb
-    go false ea false eb true ec d ed h = is 6 p6 ec
-    go false ea false eb false ec true ed h = is 2 p2 ed
-    go false ea false eb false ec false ed h = is 7 p7 h
+by-passing P p0 p1 p6 p2 p7 stage =
+    either-way (plain stage || eqb stage 2) (eqb stage 7)
+    (either-way (plain stage) (eqb stage 2) (plain-each P p0 p1 p6 stage) (found-at P 2 p2 stage))
+    (found-at P 7 p7 stage)
 
 module _ (flags requests note message : ℕ) (e : Envelope) (few : flags ≤ 7) (byte : requests < 256)
     (away : bitOf flags 0 ≡ false) (news : bitOf flags 2 ≡ true) where

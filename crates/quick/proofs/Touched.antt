@@ -18,7 +18,7 @@ use Rattle.machine.specs.Fields.{full, empty, with, withArriving, withHave, wit
 use Rattle.machine.specs.Image.{processFrom, flagBits, requestBits, processBytes}
 use Rattle.machine.specs.Stages.{told}
 use Rattle.machine.specs.Events.{becomes, idle, startPut, startGet, signal, receive, hear, react}
-use Rattle.machine.proofs.Lists.{every-at}
+use Rattle.machine.proofs.Lists.{agree}
 use Rattle.machine.proofs.Idle.{idles}
 use Rattle.record.specs.Record.{recordBytesOf}
 use Rattle.quick.specs.Quick.{noteAfter}
@@ -30,24 +30,20 @@ use Rattle.quick.proofs.Open.{by-code}
 abbrev pub entry : ℕ → ℕ → ℕ
 entry table code = table / 2 ^ (8 * code) % 256
 
-abbrev pub stageAfter : ℕ → ℕ → ℕ
-stageAfter code stage = stage + entry 0x00_00_00_00_01_00_06_01 code
+abbrev pub stageTouched : ℕ → ℕ → ℕ
+stageTouched code stage = stage + entry 0x00_00_00_00_01_00_06_01 code
 
-abbrev pub flagsAfter : ℕ → ℕ → ℕ
-flagsAfter code flags =
+abbrev pub flagsTouched : ℕ → ℕ → ℕ
+flagsTouched code flags =
     bitOr (bitAnd flags (entry 0x07_07_07_05_07_07_07_07 code))
     (entry 0x00_04_04_05_04_00_00_00 code)
 
-abbrev pub requestsAfter : ℕ → ℕ → ℕ
-requestsAfter code requests =
+abbrev pub requestsTouched : ℕ → ℕ → ℕ
+requestsTouched code requests =
     bitOr (bitAnd requests (entry 0xff_7f_bf_ff_ff_ff_ff_ff code))
     (entry 0x00_02_01_00_00_00_00_00 code)
 
 -- ---- bytes, computed at every value
-
--- two formulas that agree at every number below a bound
-pub agree : (bound : ℕ) (f g : ℕ → ℕ) → every bound (λ k. eqb (f k) (g k)) ≡ true → (n : ℕ) → n < bound → f n ≡ g n
-agree bound f g test n h = eqb-true (f n) (g n) (every-at bound (λ k. eqb (f k) (g k)) test n h)
 
 module _ (flags : ℕ) (few : flags ≤ 7) where
   -- a record of these flags
@@ -57,18 +53,18 @@ module _ (flags : ℕ) (few : flags ≤ 7) where
   below : flags < 8
   below = omega arith
 
-  flags-0 : flagBits (flagged flags) ≡ flagsAfter 0 flags
+  flags-0 : flagBits (flagged flags) ≡ flagsTouched 0 flags
   unfolding every
-  flags-0 = agree 8 (λ k. flagBits (flagged k)) (flagsAfter 0) refl flags below
+  flags-0 = agree 8 (λ k. flagBits (flagged k)) (flagsTouched 0) refl flags below
 
-  flags-3 : flagBits (withNews true (flagged flags)) ≡ flagsAfter 3 flags
+  flags-3 : flagBits (withNews true (flagged flags)) ≡ flagsTouched 3 flags
   unfolding every
-  flags-3 = agree 8 (λ k. flagBits (withNews true (flagged k))) (flagsAfter 3) refl flags below
+  flags-3 = agree 8 (λ k. flagBits (withNews true (flagged k))) (flagsTouched 3) refl flags below
 
-  flags-4 : flagBits (withArriving false (withHave true (withNews true (flagged flags)))) ≡ flagsAfter 4 flags
+  flags-4 : flagBits (withArriving false (withHave true (withNews true (flagged flags)))) ≡ flagsTouched 4 flags
   unfolding every
   flags-4 =
-      agree 8 (λ k. flagBits (withArriving false (withHave true (withNews true (flagged k))))) (flagsAfter 4) refl flags
+      agree 8 (λ k. flagBits (withArriving false (withHave true (withNews true (flagged k))))) (flagsTouched 4) refl flags
       below
 
 module _ (requests : ℕ) (byte : requests < 256) where
@@ -76,9 +72,9 @@ module _ (requests : ℕ) (byte : requests < 256) where
   abbrev requesting : ℕ → Process
   requesting k = processFrom 0 0 k 0
 
-  requests-0 : requestBits (requesting requests) ≡ requestsAfter 0 requests
+  requests-0 : requestBits (requesting requests) ≡ requestsTouched 0 requests
   unfolding every
-  requests-0 = agree 256 (λ k. requestBits (requesting k)) (requestsAfter 0) refl requests byte
+  requests-0 = agree 256 (λ k. requestBits (requesting k)) (requestsTouched 0) refl requests byte
 
   -- a request heard for full
   abbrev heard-full : Process → Process
@@ -87,13 +83,13 @@ module _ (requests : ℕ) (byte : requests < 256) where
   abbrev heard-empty : Process → Process
   heard-empty p = withLink (with (p .link) empty false) (withAsked (with (p .asked) empty true) p)
 
-  requests-5 : requestBits (heard-full (requesting requests)) ≡ requestsAfter 5 requests
+  requests-5 : requestBits (heard-full (requesting requests)) ≡ requestsTouched 5 requests
   unfolding every
-  requests-5 = agree 256 (λ k. requestBits (heard-full (requesting k))) (requestsAfter 5) refl requests byte
+  requests-5 = agree 256 (λ k. requestBits (heard-full (requesting k))) (requestsTouched 5) refl requests byte
 
-  requests-6 : requestBits (heard-empty (requesting requests)) ≡ requestsAfter 6 requests
+  requests-6 : requestBits (heard-empty (requesting requests)) ≡ requestsTouched 6 requests
   unfolding every
-  requests-6 = agree 256 (λ k. requestBits (heard-empty (requesting k))) (requestsAfter 6) refl requests byte
+  requests-6 = agree 256 (λ k. requestBits (heard-empty (requesting k))) (requestsTouched 6) refl requests byte
 
 -- ---- the event
 
@@ -117,7 +113,7 @@ module _ (stage flags requests note message : ℕ) (e : Envelope) (few : flags �
   Touches code r =
       (r ≡ becomes Moved e (r .process))
       × (processBytes (r .process)
-      ≡ recordBytesOf (stageAfter code stage) (flagsAfter code flags) (requestsAfter code requests)
+      ≡ recordBytesOf (stageTouched code stage) (flagsTouched code flags) (requestsTouched code requests)
       (noteAfter code message note))
 
   pub touches : (code : ℕ) → code < 8 → (code ≡ 2 → ⊥) → (code ≡ 7 → ⊥)

@@ -1,5 +1,5 @@
--- Each quick way as the code goes it. What lower functions answered is a variable here, with the value that it is known
--- to be. Assumes nothing.
+-- Each quick way, as the code goes it, is the rule's. What lower functions answered is a variable here, with the value
+-- that it is known to be. Assumes nothing.
 use Prim.Native.Nat.{ℕ, _+_, _*_, _%_, _≤_, _<_}
 use mathlib.Core.Path.{_≡_, refl, ap, _∙_}
 use mathlib.Core.Bool.{Bool, false, not}
@@ -22,13 +22,13 @@ use Rattle.machine.proofs.Stored.{read-at}
 use Rattle.machine.proofs.Lists.{every-at}
 use Rattle.machine.proofs.Ring.{left-below}
 use Rattle.machine.proofs.Sound.{sound-facts}
-use Rattle.machine.proofs.Refusals.{image-fine}
+use Rattle.machine.proofs.Refusals.{image-fine, process-few, record-within}
 use Rattle.event.specs.declared.Event.{Event}
 use Rattle.event.specs.Parsed.{ruled}
 use Rattle.record.specs.Record.{recordBytesOf}
 use Rattle.quick.specs.Possible.{Possible}
 use Rattle.quick.specs.Quick.{noteAfter, wishAt, Ready, Moves}
-use Rattle.quick.proofs.Touched.{entry, stageAfter, flagsAfter, requestsAfter}
+use Rattle.quick.proofs.Touched.{entry, stageTouched, flagsTouched, requestsTouched}
 use Rattle.quick.proofs.Passed.{wantedBits, asksBits, requestsPassed, linkAsked}
 use Rattle.quick.proofs.Images.{stageIn, flagsIn, requestsIn, noteIn, touched-written, passed-written}
 
@@ -47,10 +47,10 @@ low-flags s i fine below =
 module _ {s : List ℕ} {event : Event} (ready : Ready s event) where
   -- the event's process is one of 64, and its record lies in the image
   pub few : event .process < 64
-  few = omega (arith, ready .below, image-fine s (ready .fine) .size .most)
+  few = process-few s (event .process) (ready .fine) (ready .below)
 
   pub within : 24 + 8 * event .process ≤ length s
-  within = omega (arith, ready .below, image-fine s (ready .fine) .room)
+  within = record-within s (event .process) (ready .fine) (ready .below)
 
   -- its stage is in range
   pub low : stageIn s (event .process) ≤ 10
@@ -59,9 +59,9 @@ module _ {s : List ℕ} {event : Event} (ready : Ready s event) where
   pub touch-done : {note after : ℕ} {t : List ℕ} → Bytes s → (event .code ≡ 2 → ⊥) → (event .code ≡ 7 → ⊥)
       → note ≡ noteIn s (event .process) → after ≡ noteAfter (event .code) (event .message) note
       → t ≡ splice s (recordAt (event .process))
-      (recordBytesOf (stageAfter (event .code) (stageIn s (event .process)))
-      (flagsAfter (event .code) (flagsIn s (event .process)))
-      (requestsAfter (event .code) (requestsIn s (event .process))) after)
+      (recordBytesOf (stageTouched (event .code) (stageIn s (event .process)))
+      (flagsTouched (event .code) (flagsIn s (event .process)))
+      (requestsTouched (event .code) (requestsIn s (event .process))) after)
       → Moves s event t
   touch-done small not-2 not-7 read noted wrote =
       touched-written s (ruled event) (ready .fine) small (ready .below) (ready .code) not-2 not-7 (ready .moves)
@@ -75,10 +75,10 @@ module _ {s : List ℕ} {event : Event} (ready : Ready s event) where
         omega (arith, at-left, size, left-below n (event .process) (omega (arith, size, image .size .least)))
 
     pub beside-few : k < 64
-    beside-few = omega (arith, beside, image-fine s (ready .fine) .size .most)
+    beside-few = process-few s k (ready .fine) beside
 
     pub beside-within : 24 + 8 * k ≤ length s
-    beside-within = omega (arith, beside, image-fine s (ready .fine) .room)
+    beside-within = record-within s k (ready .fine) beside
 
     pub pass-done : {wish note note-beside : ℕ} {t u : List ℕ} → Bytes s → event .code ≡ 7
         → bitOf (flagsIn s (event .process)) 0 ≡ false

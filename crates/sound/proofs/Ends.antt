@@ -1,4 +1,5 @@
--- The ends of an image's test: refused, and done. Assumes nothing.
+-- The two ends of an image's test are the rule's: its verdict says which, and the ring has the size that was read.
+-- Assumes nothing.
 use Prim.Native.Nat.{ℕ}
 use mathlib.Core.Path.{_≡_}
 use mathlib.Core.List.{List}

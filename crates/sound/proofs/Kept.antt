@@ -13,15 +13,12 @@ use Rattle.machine.specs.Image.{processFrom}
 use Rattle.machine.specs.Stages.{noted, markable}
 use Rattle.machine.specs.Sound.{holds, recordRules, stageFits}
 use Rattle.machine.proofs.Bits.{bit-le, bit-is, is-bit}
-use Rattle.machine.proofs.Lists.{and-first, and-second}
+use Rattle.machine.proofs.Lists.{and-first, and-second, and-both}
 use Rattle.sound.specs.Demands.{lawful, markMask, fromParts, lawfulMask, entryOf, unlawfulMask, demandOf}
 use Rattle.sound.specs.Walk.{leftOf, wrongIn}
 use Rattle.sound.proofs.Masks.{two-parts, mask-flags, mask-marks, mask-byte, mask-note, mask-stage}
 
 -- ---- tests and bits
-
-pub both : (a b : Bool) → a ≡ true → b ≡ true → a && b ≡ true
-both a b e f = rw (e, f)
 
 bit-zero : (b : Bool) → bit b ≡ 0 → b ≡ false
 bit-zero true e = absurd (omega arith)
@@ -222,7 +219,7 @@ module _ (status : Status) (stage flags requests third note : ℕ) (s-lt : stage
       let no-note = free-noted (noted stage) note (and-second (a && b && c && d && e) f to-f) in
       let here = stage-is short in
       let law : lawful status have stage ≡ true =
-      both a st (and-first a b to-b) (and-second (a && b && c && d && e && f) st ok) in
+      and-both a st (and-first a b to-b) (and-second (a && b && c && d && e && f) st ok) in
       lawful-mask (law-is short ∙ law) ∙ rw (here, no-full, no-empty, zero, no-note) (flags-left stage flags short few)
 
   rules-hold : stage < 16 → flags ≤ 7
@@ -242,12 +239,12 @@ module _ (status : Status) (stage flags requests third note : ℕ) (s-lt : stage
       let wrong-full = bit-zero (not (markable full stage) && bitOf requests 4) (omega arith) in
       let wrong-empty = bit-zero (not (markable empty stage) && bitOf requests 5) (omega arith) in
       let free : cond (noted stage) 0 note ≡ 0 = rw here at no-note in
-      both (a && b && c && d && e && f) st
-      (both (a && b && c && d && e) f
-      (both (a && b && c && d) e
-      (both (a && b && c) d
-      (both (a && b) c
-      (both a b (and-first a st legal) (le-leb flags 7 few))
+      and-both (a && b && c && d && e && f) st
+      (and-both (a && b && c && d && e) f
+      (and-both (a && b && c && d) e
+      (and-both (a && b && c) d
+      (and-both (a && b) c
+      (and-both a b (and-first a st legal) (le-leb flags 7 few))
       (unmarked (markable full stage) (bitOf requests 4) wrong-full))
       (unmarked (markable empty stage) (bitOf requests 5) wrong-empty))
       (eq-eqb third 0 zero))

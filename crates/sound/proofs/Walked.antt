@@ -1,4 +1,5 @@
--- The walk over the records, step by step. Assumes nothing.
+-- The walk over the records, step by step: at first it holds what the rules say of no record, and after each step what
+-- they say of one record more. Assumes nothing.
 use Prim.Native.Nat.{ℕ, zero, suc, _+_, _*_, _/_, _%_, _^_, _≤_, _<_}
 use mathlib.Core.Path.{_≡_, refl, sym, _∙_}
 use mathlib.Core.Bool.{Bool, true, false, _&&_, _||_}
@@ -35,7 +36,7 @@ pairs false b c d = refl
 
 -- ---- what is left of several records
 
-pub or-zero : (a b : ℕ) → bitOr a b ≡ 0 → (a ≡ 0) × (b ≡ 0)
+or-zero : (a b : ℕ) → bitOr a b ≡ 0 → (a ≡ 0) × (b ≡ 0)
 or-zero a b e =
     let sum = or-add-and a b in
     let one = and-le-l a b in

@@ -1,4 +1,5 @@
--- Soundness from the header's two words and what the walk gathers. Assumes nothing.
+-- Soundness from the header's two words and what the walk gathers: the words have the header's bytes in them, one flag
+-- and nothing else is left just where records and stages fit, and the marks are the sets' members. Assumes nothing.
 use Prim.Native.Nat.{ℕ, zero, suc, _+_, _*_, _/_, _%_, _^_, _≤_, _<_}
 use mathlib.Core.Path.{_≡_, refl, sym, ap, _∙_}
 use mathlib.Core.Bool.{Bool, true, false, _&&_, _||_}
@@ -17,11 +18,10 @@ use Rattle.machine.specs.Image.{envelopeIn, processesIn, sizeIn, stateIn}
 use Rattle.machine.specs.Sound.{headerFits, places, markedSet, restFits, sound, ones64}
 use Rattle.machine.proofs.Bits.{bit-is}
 use Rattle.machine.proofs.Bytes.{number-8, number-more, number-lt, zeros-number}
-use Rattle.machine.proofs.Lists.{and-first, and-second}
+use Rattle.machine.proofs.Lists.{and-first, and-second, and-both}
 use Rattle.machine.proofs.Walk.{length-processes, marked-lt, ones-64}
 use Rattle.sound.specs.declared.Walk.{Walk}
 use Rattle.sound.specs.Walk.{wrongIn, Flags, fitTo, Marks, Walked, headerIn}
-use Rattle.sound.proofs.Kept.{both}
 
 -- ---- just one flag
 
@@ -39,7 +39,7 @@ regroup true true false p f e = nothing p
 regroup true false s p f e = refl
 regroup false r s p f e = refl
 
-pub same-test : (a b : Bool) → (a ≡ true → b ≡ true) → (b ≡ true → a ≡ true) → a ≡ b
+same-test : (a b : Bool) → (a ≡ true → b ≡ true) → (b ≡ true → a ≡ true) → a ≡ b
 same-test true b f g = sym (f refl)
 same-test false true f g = g refl
 same-test false false f g = refl
@@ -89,7 +89,7 @@ one-place s status n {w} so =
     ⊎-elim (λ x. rw (eqb-true (w .left) 256 x)) (λ x. rw (eqb-true (w .left) 512 x))
     (one-of a b (and-first (a || b) (eqb (w .flags) (w .left)) so-one)) in
     let fit = so .clean none in
-    both _ _ fit (eq-eqb _ _ (only-one (so .found fit) so-one)))
+    and-both _ _ fit (eq-eqb _ _ (only-one (so .found fit) so-one)))
     (λ so-one.
     let fit = and-first (fitTo s status n) (eqb (places (processesIn s n)) 1) so-one in
     let one = eqb-true _ _ (and-second (fitTo s status n) (eqb (places (processesIn s n)) 1) so-one) in

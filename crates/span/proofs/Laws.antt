@@ -1,4 +1,5 @@
--- A stretch of bytes, written or tested one byte after the other. Assumes nothing.
+-- A stretch of bytes, written or tested one byte after the other: a byte more is one more of the splice, or of the
+-- test. Assumes nothing.
 use Prim.Native.Nat.{ℕ, zero, suc, _+_, _-_, _<_, _≤_}
 use mathlib.Core.Path.{_≡_, sym, _∙_}
 use mathlib.Core.List.{List, [], _∷_, _++_, append-assoc}

@@ -1,16 +1,15 @@
 -- Each way through the step call and through what it is made of is that way through the rule. The answers of lower
 -- functions are variables here, each with the rule's value that it is known to be. Assumes nothing.
-use Prim.Native.Nat.{ℕ, _+_, _*_, _≤_, _<_}
-use mathlib.Core.Path.{_≡_, refl, sym, ap, subst, _∙_}
-use mathlib.Core.Bool.{Bool, true, false, not, true≢false}
+use Prim.Native.Nat.{ℕ, _≤_, _<_}
+use mathlib.Core.Path.{_≡_, sym, ap, subst, _∙_}
+use mathlib.Core.Bool.{Bool, true, false, not}
 use borrow.Author.Tests.{not-true, not-false}
 use mathlib.Core.List.{List, []}
 use native.Mathlib.Omega.{arith}
-use lib.ListN.{length}
 use Rattle.machine.specs.declared.Envelope.{Envelope}
 use Rattle.machine.specs.declared.Process.{Process}
 use Rattle.machine.specs.declared.Outcome.{Outcome}
-use Rattle.machine.specs.declared.Outcome.the-variants.{Idle, Moved, Fill, Take, Sent, Got}
+use Rattle.machine.specs.declared.Outcome.the-variants.{Idle, Moved}
 use Rattle.machine.specs.declared.Reaction.{Reaction}
 use Rattle.machine.specs.declared.Refusal.{Refusal}
 use Rattle.machine.specs.declared.Verdict.the-variants as verdict
@@ -25,6 +24,7 @@ use Rattle.machine.proofs.Rewrite.{rewrite-image}
 use Rattle.machine.proofs.Refusals.{image-fine, event-below, event-code}
 use Rattle.machine.proofs.Stored.{read-at, read-envelope-at}
 use Rattle.machine.proofs.Idle.{idle-keeps}
+use Rattle.machine.proofs.Stopped.{idle-is}
 use Rattle.machine.proofs.Sums.{marked-small, marked-counted}
 use Rattle.put.specs.Ready.{Ready}
 use Rattle.image.specs.declared.Ring.{Ring}
@@ -86,15 +86,6 @@ module _ (s : List ℕ) (v : rule.Event) {e : Envelope} {p : Process} (fine : im
 
 -- ---- the checked step
 
--- an outcome that says idle
-idle-is : (o : Outcome) → isIdle o ≡ true → o ≡ Idle
-idle-is Idle h = refl
-idle-is Moved h = absurd (true≢false (sym h))
-idle-is (Fill m) h = absurd (true≢false (sym h))
-idle-is (Take m) h = absurd (true≢false (sym h))
-idle-is Sent h = absurd (true≢false (sym h))
-idle-is Got h = absurd (true≢false (sym h))
-
 module _ (s : List ℕ) (event : Event) (fine : imageVerdict s ≡ verdict.Fine) (below : event .process < sizeIn s) {b : Bool}
     (test : Possible (event .code) (stageIn s (event .process)) (flagsIn s (event .process))
     (requestsIn s (event .process)) b) where
@@ -136,13 +127,6 @@ pub after-left : {s t : List ℕ} (event : Event) → t ≡ s → {o : Outcome} 
     → o ≡ rule.outcome (stateIn t) (ruled event) → u ≡ imageWith t (rule.apply (stateIn t) (ruled event))
     → (o ≡ rule.outcome (stateIn s) (ruled event)) × (u ≡ imageWith s (rule.apply (stateIn s) (ruled event)))
 after-left event same says wrote = (says ∙ rw same, wrote ∙ rw same)
-
--- the event's process is one of 64, and its record lies in the image
-pub few : (s : List ℕ) (i : ℕ) → imageVerdict s ≡ verdict.Fine → i < sizeIn s → i < 64
-few s i fine below = omega (arith, image-fine s fine .size .most)
-
-pub within : (s : List ℕ) (i : ℕ) → imageVerdict s ≡ verdict.Fine → i < sizeIn s → 24 + 8 * i ≤ length s
-within s i fine below = omega (arith, image-fine s fine .room)
 
 -- what must be known of the record's bytes for the test
 pub may-test : (s : List ℕ) (event : Event) → imageVerdict s ≡ verdict.Fine → event .process < sizeIn s → event .code < 8

@@ -2,14 +2,14 @@
 -- nothing.
 use Prim.Native.Nat.{ℕ, zero, suc, _+_, _*_, _/_, _%_, _≤_, _<_, min, max}
 use mathlib.Core.Path.{_≡_, refl, _∙_}
-use mathlib.Core.Bool.{Bool, true, false, not, _&&_, Bool·beq, and-true, false≢true}
+use mathlib.Core.Bool.{Bool, true, false, not, _&&_, Bool·beq, and-true}
 use mathlib.Core.List.{List}
 use native.Mathlib.Omega.{arith}
 use lib.ListN.{getD}
 use lib.Dec.{eqb}
 use lib.Arith.{bin-ind}
 use lib.Bits.{bitAnd, bitOr, and-step, or-step, and-mod, or-mod, and-shr, or-shr, and-zero-r}
-use borrow.Author.Tests.{eqb-true, eq-eqb}
+use borrow.Author.Tests.{eqb-true}
 use Rattle.machine.specs.declared.Envelope.{Envelope}
 use Rattle.machine.specs.Bytes.{Bytes, bit, bitOf, number}
 use Rattle.machine.specs.Lists.{every, all}
@@ -17,15 +17,14 @@ use Rattle.machine.specs.Image.{processIn, processesIn}
 use Rattle.machine.specs.Stages.{told}
 use Rattle.machine.specs.Sound.{recordsFit}
 use Rattle.machine.specs.Stopped.{quiet}
-use Rattle.machine.proofs.Lists.{and-first, and-second, every-at, all-more}
+use Rattle.machine.proofs.Lists.{every-at, all-more, same-bool}
 use Rattle.machine.proofs.Sound.{record-facts}
 use Rattle.machine.proofs.Stopped.{quiet-nothing}
 use Rattle.machine.proofs.Walk.{processes-none, processes-more}
+use Rattle.span.proofs.Ored.{or-none}
 use Rattle.sound.specs.Demands.{fromParts}
 use Rattle.sound.proofs.Masks.{two-parts}
-use Rattle.sound.proofs.Kept.{both}
-use Rattle.sound.proofs.Walked.{pairs, or-zero, word-is}
-use Rattle.sound.proofs.Whole.{same-test}
+use Rattle.sound.proofs.Walked.{pairs, word-is}
 use Rattle.stopped.specs.Stopped.{QuietAre}
 
 -- ---- a mask over several words
@@ -89,22 +88,9 @@ and-or =
       and-odd b m,
     ))
 
--- neither of two is there
-or-test : (a b : ℕ) → eqb (bitOr a b) 0 ≡ eqb a 0 && eqb b 0
-or-test a b =
-    same-test _ _
-    (λ none.
-    let each = or-zero a b (eqb-true _ 0 none) in
-    both _ _ (eq-eqb a 0 (each .0)) (eq-eqb b 0 (each .1)))
-    (λ none.
-    rw (
-      eqb-true a 0 (and-first _ _ none),
-      eqb-true b 0 (and-second (eqb a 0) _ none),
-    ))
-
--- and neither under a mask
+-- neither of two is there under a mask
 mask-test : (a b m : ℕ) → eqb (bitAnd (bitOr a b) m) 0 ≡ eqb (bitAnd a m) 0 && eqb (bitAnd b m) 0
-mask-test a b m = rw (and-or a b m) (or-test (bitAnd a m) (bitAnd b m))
+mask-test a b m = rw (and-or a b m) (or-none (bitAnd a m) (bitAnd b m))
 
 -- ---- tests that the checker computes
 
@@ -133,15 +119,9 @@ all-stages : every 11 sameBits ≡ true
 unfolding every sameBits
 all-stages = refl
 
-beq-is : (a b : Bool) → Bool·beq a b ≡ true → a ≡ b
-beq-is true true e = refl
-beq-is true false e = absurd (false≢true e)
-beq-is false true e = absurd (false≢true e)
-beq-is false false e = refl
-
 bits-2-5 : (stage : ℕ) → stage ≤ 10 → eqb (bitAnd (13 * stage) 36) 0 ≡ restful stage
 unfolding sameBits
-bits-2-5 stage small = beq-is _ _ (every-at 11 sameBits all-stages stage (omega arith))
+bits-2-5 stage small = same-bool _ _ (every-at 11 sameBits all-stages stage (omega arith))
 
 -- ---- a record's word
 
@@ -232,7 +212,7 @@ pub quiet-more : (s : List ℕ) → Bytes s → (n i any stages : ℕ) {word : �
 quiet-more s small n i any stages {word} fit below before read e =
     let here : noneWaits word (bitAnd (13 * (word % 256)) 36) ≡ quiet e (processIn s i) =
     rw read (word-quiet s small i (record-facts s n fit i below .stage) e) in
-    rw (mask-test any word 12584448, or-test stages (bitAnd (13 * (word % 256)) 36))
+    rw (mask-test any word 12584448, or-none stages (bitAnd (13 * (word % 256)) 36))
     (pairs (eqb (bitAnd any 12584448) 0) (eqb (bitAnd word 12584448) 0) (eqb stages 0) _
     ∙ rw (
       before e,

@@ -8,7 +8,6 @@ use native.Mathlib.Omega.{arith}
 use native.Mathlib.Numerals.{add-one}
 use lib.ListN.{length, getD, drop}
 use lib.Seq.{drop-cons}
-use lib.Dec.{ltb}
 use borrow.Author.Tests.{lt-ltb}
 use Rattle.machine.specs.declared.Verdict.the-variants.{Fine}
 use Rattle.machine.specs.Bytes.{Bytes}
@@ -40,11 +39,15 @@ module _ (codes n : ℕ) (s : List ℕ) (accepted : tapeVerdict codes n s ≡ Fi
   tape : TapeFine codes n s
   tape = tape-fine codes n s accepted
 
-  -- at most 65,536 blocks of 63
-  pub events-few : eventsOn s ≤ 4128768
-  events-few =
+  -- at most 63 in each block
+  pub events-in-blocks : eventsOn s ≤ 63 * (length s / 512)
+  events-in-blocks =
       let last = length s / 512 - 1 in
-      omega (arith, tape .blocks last (omega (arith, tape .some)) .most, tape .some, tape .most, length-list s tape)
+      omega (arith, tape .blocks last (omega (arith, tape .some)) .most, tape .some, length-list s tape)
+
+  -- and at most 65,536 blocks
+  pub events-few : eventsOn s ≤ 4128768
+  events-few = omega (arith, events-in-blocks, tape .most)
 
   -- event k, where it stands on the tape
   pub event-at : (k : ℕ) → k < eventsOn s → (d : Event) → getD (runEvents s) k d ≡ eventIn s (slotAt (k / 63) (k % 63))

@@ -1,4 +1,5 @@
--- Each way through the reader. Assumes nothing.
+-- Each way through the reader is that way through the rule: refused by the size, by the tape or by the room, and done,
+-- where the events unpacked are the tape's list. Assumes nothing.
 use Prim.Native.Nat.{ℕ, _+_, _-_, _*_, _/_, _^_, _≤_, _<_}
 use mathlib.Core.Path.{_≡_, refl, ap, _∙_}
 use mathlib.Core.Bool.{Bool, true, false}

@@ -1,4 +1,5 @@
--- Each way through the writer. Assumes nothing.
+-- Each way through the writer is that way through the rule: refused by the size, by the list or by the room, and done,
+-- where the blocks packed are the list's tape. Assumes nothing.
 use Prim.Native.Nat.{ℕ, _*_, _/_, _≤_, _<_}
 use mathlib.Core.Path.{_≡_, sym, ap, _∙_}
 use mathlib.Core.Bool.{Bool, true, false}

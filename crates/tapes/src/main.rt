@@ -29,7 +29,7 @@ mod trip; // trip.rt: a list written, read back and written again
 use attempt::attempt;
 use said::BLANK;
 use trip::trip;
-use words::place;
+use words::index_of;
 use words::say;
 use words::until;
 ghost use mathlib.Core.Path.{_≡_};
@@ -55,7 +55,7 @@ pub fn not_understood() {
 
 // The line for one line of the input.
 fn line(text: &[u8]) {
-    let form = place(b"trip write read #", &text[0..until(text, 0, b' ')]);
+    let form = index_of(b"trip write read #", &text[0..until(text, 0, b' ')]);
     match form {
         0 => trip(text),
         1 => attempt(false, text),

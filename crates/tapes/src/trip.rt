@@ -11,8 +11,8 @@ use said::kept;
 use said::say_kept;
 use tape::Filled;
 use words::decimal_at;
-use words::number;
 use words::say;
+use words::say_decimal;
 use words::say_number;
 use words::start;
 ghost use Prim.Native.Nat.{_+_, _*_, _≤_};
@@ -108,7 +108,7 @@ fn journey(n: usize, events: usize)
     let mut again = blank();
     put_list(&mut list, n, events);
     let filled = there_and_back(n, &list, 8 * events, &mut tape, &mut back, &mut again);
-    number(events);
+    say_decimal(events);
     report(filled, &list, &tape, &back, &again);
 }
 

@@ -39,7 +39,7 @@ pub fn start(text: &[u8], k: usize) -> usize
 }
 
 // Internal: which word of a list, from 0, a word is; how many there are where it is none of them.
-pub fn place(words: &[u8], word: &[u8]) -> usize {
+pub fn index_of(words: &[u8], word: &[u8]) -> usize {
     let mut k = 0;
     let mut at = 0;
     while at < words.len() {
@@ -57,7 +57,7 @@ pub fn place(words: &[u8], word: &[u8]) -> usize {
 }
 
 // Internal: the value of a digit; 255 for any other byte.
-pub fn digit(byte: u8) -> u8 {
+pub fn digit_value(byte: u8) -> u8 {
     if byte < b'0' {
         return 255;
     }
@@ -72,7 +72,7 @@ pub fn decimal(word: &[u8]) -> usize {
     let mut n = 0;
     let mut at = 0;
     while at < word.len() {
-        let d = digit(word[at]);
+        let d = digit_value(word[at]);
         if 9 < d {
             return NO_NUMBER;
         }
@@ -98,12 +98,12 @@ pub fn say(text: &[u8]) {
 }
 
 // Internal: a number, written.
-pub fn number(n: usize) {
+pub fn say_decimal(n: usize) {
     io::print_decimal(STDOUT_FILENO, n as u64);
 }
 
 // Internal: a text, and a number after it.
 pub fn say_number(text: &[u8], n: usize) {
     say(text);
-    number(n);
+    say_decimal(n);
 }

@@ -1,4 +1,4 @@
--- The rule's three tests of a length. Assumes nothing.
+-- The rule's three tests of a length, made at once, so the two ways out are the rule's two. Assumes nothing.
 use native.Mathlib.Omega.{arith}
 use Rattle.blocks.proofs.Ways.{length-fits, length-unfit}
 use Rattle.blocks.proofs.length_verdict.Statement.{statement}

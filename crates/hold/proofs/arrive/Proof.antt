@@ -1,6 +1,7 @@
 -- Where the envelope stays nothing is touched; else the record is written with the arriving flag. Assumes nothing.
 use native.Mathlib.Omega.{arith}
-use Rattle.hold.proofs.Images.{arrive-none, arrive-some}
+use Rattle.place.proofs.Ways.{arrive-none}
+use Rattle.hold.proofs.Images.{arrive-some}
 use Rattle.hold.proofs.arrive.Statement.{statement}
 use Rattle.hold.proofs.arrive.Tie as tie
 

@@ -1,4 +1,4 @@
--- By the status. Assumes nothing.
+-- The mark for full is bit 4 of byte 2 and that for empty bit 5; code tests the one of its status. Assumes nothing.
 use Rattle.hold.proofs.is_marked.Statement.{statement}
 use Rattle.hold.proofs.is_marked.Tie as tie
 

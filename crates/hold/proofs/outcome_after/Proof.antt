@@ -1,4 +1,5 @@
--- By the stage, and by whether the envelope leaves. Assumes nothing.
+-- Code tests the stage and whether the envelope leaves as the definition does, so each way out is its value there.
+-- Assumes nothing.
 use borrow.Author.Tests.{eq-eqb, ne-eqb}
 use Rattle.hold.proofs.outcome_after.Statement.{statement}
 use Rattle.hold.proofs.outcome_after.Tie as tie

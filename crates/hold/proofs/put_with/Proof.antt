@@ -1,5 +1,4 @@
 -- The put is done on the bytes as the rule does it, and then written. Assumes nothing.
-use mathlib.Core.Path.{sym, _∙_}
 use native.Mathlib.Omega.{arith}
 use Rattle.quick.proofs.Images.{flagsIn}
 use Rattle.quick.proofs.Ways.{few, within}

@@ -1,4 +1,5 @@
--- By the stage, the status, and whether the envelope leaves. Assumes nothing.
+-- Code tests the stage, the status and whether the envelope leaves as the definition does, so each way out is its value
+-- there. Assumes nothing.
 use borrow.Author.Tests.{eq-eqb, ne-eqb}
 use Rattle.hold.proofs.stage_after.Statement.{statement}
 use Rattle.hold.proofs.stage_after.Tie as tie

@@ -1,4 +1,4 @@
--- By the status. Assumes nothing.
+-- A case for each status: code sets the bit that the definition sets. Assumes nothing.
 use Rattle.hold.proofs.with_mark.Statement.{statement}
 use Rattle.hold.proofs.with_mark.Tie as tie
 

@@ -1,4 +1,4 @@
--- By the status. Assumes nothing.
+-- A case for each status: code clears the bit that the definition clears. Assumes nothing.
 use Rattle.hold.proofs.without_mark.Statement.{statement}
 use Rattle.hold.proofs.without_mark.Tie as tie
 

@@ -1,4 +1,4 @@
--- Nothing else is counted. Assumes nothing.
+-- An idle event counts as idle, and as nothing else. Assumes nothing.
 use native.Mathlib.Omega.{arith}
 use Rattle.ledger.proofs.Ways.{count-fits, idle-more}
 use Rattle.ledger.proofs.count_idle.Statement.{statement}

@@ -19,10 +19,10 @@ use Rattle.machine.specs.Stages.{plain, told}
 use Rattle.machine.specs.Events.{ask, passFor, pass, markFor, mark, unmark, clear, wanted, leave, heeding}
 use Rattle.machine.specs.Events.{forward, ends, stroll, wait, endPut}
 use Rattle.machine.specs.Events.{startPut, startGet, work, signal, receive, hear, put, react}
-use Rattle.machine.proofs.Lists.{and-first, and-second}
+use Rattle.machine.proofs.Lists.{and-first, and-second, same-bool}
 use Rattle.machine.proofs.Ways.{pass-for-keeps, pass-keeps, by-test, moving, by-stage, every-code}
 use Rattle.machine.proofs.Owed.{begun}
-use Rattle.machine.proofs.Settled.{Fits, either-way, same-status, other-status, needs, had-at, waitsFor}
+use Rattle.machine.proofs.Settled.{Fits, either-way, other-status, needs, had-at, waitsFor}
 use Rattle.machine.proofs.Balance.Pairs.{none-for, set-on, set-keeps}
 use Rattle.machine.proofs.Balance.Clauses.{HasAsked}
 use Rattle.machine.proofs.Balance.Stages.{at-stages, waits-same}
@@ -31,7 +31,7 @@ use Rattle.machine.proofs.Balance.Stages.{at-stages, waits-same}
 
 -- a stage waits for one status
 waits-one : (s t : Status) → eqb (waitsFor s) (waitsFor t) ≡ true → s ≡ t
-waits-one s t e = sym (same-status t s (sym (waits-same s t) ∙ e))
+waits-one s t e = sym (same-bool t s (sym (waits-same s t) ∙ e))
 
 -- stages that wait for nothing: 0, 1, 5, 6, 10
 abbrev free : ℕ → Bool

@@ -19,6 +19,7 @@ use Rattle.machine.specs.Events.{positive, wanted, processAt}
 use Rattle.machine.specs.Stopped.{quiet, stopped, Stopped}
 use Rattle.machine.specs.Balance.{Totals, ownMessage}
 use Rattle.machine.proofs.Lists.{or-second, all-at}
+use Rattle.machine.proofs.Bits.{bit-on}
 use Rattle.machine.proofs.Sums.{sum, some-part, parts-le, parts-none, flagsSet, mark-counted}
 use Rattle.machine.proofs.Facts.{fits-at}
 use Rattle.machine.proofs.Stopped.{means-stopped, quiet-nothing}
@@ -29,11 +30,6 @@ use Rattle.machine.proofs.Balance.Still.{refuted, Still, nothing-still,
 use Rattle.machine.proofs.Balance.Still.{rests-on, served, Unserved, rests-unserved}
 
 -- ---- laws of bits and counts
-
--- a bit that counts is on
-bit-on : (b : Bool) → 1 ≤ bit b → b ≡ true
-bit-on true some = refl
-bit-on false some = absurd (omega arith)
 
 -- where a bit that is on makes n positive, it is at most n
 bit-most : (b : Bool) (n : ℕ) → (b ≡ true → 1 ≤ n) → bit b ≤ n

@@ -1,7 +1,8 @@
 -- An event that isn't possible is idle; any other is performed, and its record is entered if it has one. Assumes nothing.
 use mathlib.Core.Path.{sym, _∙_}
 use native.Mathlib.Omega.{arith}
-use Rattle.step.proofs.Ways.{few, within, may-test, not-possible, may-be-quick}
+use Rattle.machine.proofs.Refusals.{process-few, record-within}
+use Rattle.step.proofs.Ways.{may-test, not-possible, may-be-quick}
 use Rattle.ledger.proofs.Bounds.{none-above-le}
 use Rattle.play.proofs.Turns.{turned-idle, turned-moved, turned-enacted, moved-is, process-small}
 use Rattle.play.proofs.turn.Statement.{statement}
@@ -12,49 +13,49 @@ mul-at c =
     let start = c .before .before .before in
     let s = start .args .image .now in
     let i = start .args .event .process in
-    omega (arith, few s i (start .pre .fine) (start .pre .below), within s i (start .pre .fine) (start .pre .below))
+    omega (arith, process-few s i (start .pre .fine) (start .pre .below), record-within s i (start .pre .fine) (start .pre .below))
 
 add-at : tie.Need-add-at
 add-at c =
     let start = c .before .before .before in
     let s = start .args .image .now in
     let i = start .args .event .process in
-    omega (arith, few s i (start .pre .fine) (start .pre .below), within s i (start .pre .fine) (start .pre .below))
+    omega (arith, process-few s i (start .pre .fine) (start .pre .below), record-within s i (start .pre .fine) (start .pre .below))
 
 slice-read-is-possible : tie.Need-slice-read-is-possible
 slice-read-is-possible c =
     let start = c .before .before .before .before in
     let s = start .args .image .now in
     let i = start .args .event .process in
-    omega (arith, few s i (start .pre .fine) (start .pre .below), within s i (start .pre .fine) (start .pre .below))
+    omega (arith, process-few s i (start .pre .fine) (start .pre .below), record-within s i (start .pre .fine) (start .pre .below))
 
 add-is-possible : tie.Need-add-is-possible
 add-is-possible c =
     let start = c .before .before .before .before in
     let s = start .args .image .now in
     let i = start .args .event .process in
-    omega (arith, few s i (start .pre .fine) (start .pre .below), within s i (start .pre .fine) (start .pre .below))
+    omega (arith, process-few s i (start .pre .fine) (start .pre .below), record-within s i (start .pre .fine) (start .pre .below))
 
 slice-read-is-possible-2 : tie.Need-slice-read-is-possible-2
 slice-read-is-possible-2 c =
     let start = c .before .before .before .before .before in
     let s = start .args .image .now in
     let i = start .args .event .process in
-    omega (arith, few s i (start .pre .fine) (start .pre .below), within s i (start .pre .fine) (start .pre .below))
+    omega (arith, process-few s i (start .pre .fine) (start .pre .below), record-within s i (start .pre .fine) (start .pre .below))
 
 add-is-possible-2 : tie.Need-add-is-possible-2
 add-is-possible-2 c =
     let start = c .before .before .before .before .before in
     let s = start .args .image .now in
     let i = start .args .event .process in
-    omega (arith, few s i (start .pre .fine) (start .pre .below), within s i (start .pre .fine) (start .pre .below))
+    omega (arith, process-few s i (start .pre .fine) (start .pre .below), record-within s i (start .pre .fine) (start .pre .below))
 
 slice-read-is-possible-3 : tie.Need-slice-read-is-possible-3
 slice-read-is-possible-3 c =
     let start = c .before .before .before .before .before .before in
     let s = start .args .image .now in
     let i = start .args .event .process in
-    omega (arith, few s i (start .pre .fine) (start .pre .below), within s i (start .pre .fine) (start .pre .below))
+    omega (arith, process-few s i (start .pre .fine) (start .pre .below), record-within s i (start .pre .fine) (start .pre .below))
 
 is-possible-requires : tie.Need-is-possible-requires
 is-possible-requires c κs =

@@ -1,4 +1,5 @@
--- The bits are gathered as the law has them. Assumes nothing.
+-- The bits are gathered as the law of possible codes (Open) has them, so the bit that is tested is the event's. Assumes
+-- nothing.
 use Prim.Native.Nat.{_*_}
 use native.Mathlib.Omega.{arith}
 use lib.Pow.{shr-le}

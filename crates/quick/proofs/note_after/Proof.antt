@@ -1,4 +1,4 @@
--- By the code. Assumes nothing.
+-- Code tests the event's code as the definition does, so each way out is its value there. Assumes nothing.
 use borrow.Author.Tests.{eq-eqb, ne-eqb}
 use Rattle.quick.proofs.note_after.Statement.{statement}
 use Rattle.quick.proofs.note_after.Tie as tie

@@ -1,6 +1,6 @@
--- By the stage. Assumes nothing.
+-- Code tests the stage as the definition does, so each way out is its value there. Assumes nothing.
 use native.Mathlib.Omega.{arith}
-use borrow.Author.Tests.{eq-eqb, ne-eqb}
+use borrow.Author.Tests.{ne-eqb}
 use Rattle.quick.proofs.wish_at.Statement.{statement}
 use Rattle.quick.proofs.wish_at.Tie as tie
 

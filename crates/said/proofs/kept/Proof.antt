@@ -1,5 +1,4 @@
 -- The byte looked at lies within the buffer. Assumes nothing.
-use Prim.{tt}
 use Prim.Native.Nat.{_≤_, _-_}
 use native.Mathlib.Omega.{arith}
 use lib.ListN.{length}

@@ -1,8 +1,8 @@
 -- An event that isn't possible is idle; one that needs no envelope is done quickly; what the quick way leaves, the whole
 -- reaction does. Assumes nothing.
-use mathlib.Core.Path.{sym}
 use native.Mathlib.Omega.{arith}
-use Rattle.step.proofs.Ways.{few, within, may-test, not-possible, may-be-quick, quickly-done, quickly-left, after-left}
+use Rattle.machine.proofs.Refusals.{process-few, record-within}
+use Rattle.step.proofs.Ways.{may-test, not-possible, may-be-quick, quickly-done, quickly-left, after-left}
 use Rattle.step.proofs.perform.Statement.{statement}
 use Rattle.step.proofs.perform.Tie as tie
 
@@ -11,49 +11,49 @@ mul-at c =
     let start = c .before .before in
     let s = start .args .image .now in
     let i = start .args .event .process in
-    omega (arith, few s i (start .pre .0) (start .pre .1), within s i (start .pre .0) (start .pre .1))
+    omega (arith, process-few s i (start .pre .0) (start .pre .1), record-within s i (start .pre .0) (start .pre .1))
 
 add-at : tie.Need-add-at
 add-at c =
     let start = c .before .before in
     let s = start .args .image .now in
     let i = start .args .event .process in
-    omega (arith, few s i (start .pre .0) (start .pre .1), within s i (start .pre .0) (start .pre .1))
+    omega (arith, process-few s i (start .pre .0) (start .pre .1), record-within s i (start .pre .0) (start .pre .1))
 
 slice-read-is-possible : tie.Need-slice-read-is-possible
 slice-read-is-possible c =
     let start = c .before .before .before in
     let s = start .args .image .now in
     let i = start .args .event .process in
-    omega (arith, few s i (start .pre .0) (start .pre .1), within s i (start .pre .0) (start .pre .1))
+    omega (arith, process-few s i (start .pre .0) (start .pre .1), record-within s i (start .pre .0) (start .pre .1))
 
 add-is-possible : tie.Need-add-is-possible
 add-is-possible c =
     let start = c .before .before .before in
     let s = start .args .image .now in
     let i = start .args .event .process in
-    omega (arith, few s i (start .pre .0) (start .pre .1), within s i (start .pre .0) (start .pre .1))
+    omega (arith, process-few s i (start .pre .0) (start .pre .1), record-within s i (start .pre .0) (start .pre .1))
 
 slice-read-is-possible-2 : tie.Need-slice-read-is-possible-2
 slice-read-is-possible-2 c =
     let start = c .before .before .before .before in
     let s = start .args .image .now in
     let i = start .args .event .process in
-    omega (arith, few s i (start .pre .0) (start .pre .1), within s i (start .pre .0) (start .pre .1))
+    omega (arith, process-few s i (start .pre .0) (start .pre .1), record-within s i (start .pre .0) (start .pre .1))
 
 add-is-possible-2 : tie.Need-add-is-possible-2
 add-is-possible-2 c =
     let start = c .before .before .before .before in
     let s = start .args .image .now in
     let i = start .args .event .process in
-    omega (arith, few s i (start .pre .0) (start .pre .1), within s i (start .pre .0) (start .pre .1))
+    omega (arith, process-few s i (start .pre .0) (start .pre .1), record-within s i (start .pre .0) (start .pre .1))
 
 slice-read-is-possible-3 : tie.Need-slice-read-is-possible-3
 slice-read-is-possible-3 c =
     let start = c .before .before .before .before .before in
     let s = start .args .image .now in
     let i = start .args .event .process in
-    omega (arith, few s i (start .pre .0) (start .pre .1), within s i (start .pre .0) (start .pre .1))
+    omega (arith, process-few s i (start .pre .0) (start .pre .1), record-within s i (start .pre .0) (start .pre .1))
 
 is-possible-requires : tie.Need-is-possible-requires
 is-possible-requires c κs =

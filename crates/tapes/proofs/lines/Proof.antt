@@ -1,5 +1,4 @@
 -- The place stays within the text, and each turn leaves a line behind. Assumes nothing.
-use Prim.{tt}
 use Prim.Native.Nat.{_≤_, _-_}
 use native.Mathlib.Omega.{arith}
 use lib.ListN.{length}

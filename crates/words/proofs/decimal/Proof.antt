@@ -1,5 +1,4 @@
 -- The number so far is less than the bound at which the reading ends. Assumes nothing.
-use Prim.{tt}
 use Prim.Native.Nat.{_≤_, _<_, _-_}
 use native.Mathlib.Omega.{arith}
 use lib.ListN.{length}
@@ -15,11 +14,11 @@ abbrev μ-loop : tie.MeasureT-loop
 loop-holds : tie.Need-loop-holds Inv-loop μ-loop
 loop-holds c = omega arith
 
-shared-slice-read-digit : tie.Need-shared-slice-read-digit Inv-loop μ-loop
-shared-slice-read-digit c = omega arith
+shared-slice-read-digit-value : tie.Need-shared-slice-read-digit-value Inv-loop μ-loop
+shared-slice-read-digit-value c = omega arith
 
-digit-requires : tie.Need-digit-requires Inv-loop μ-loop
-digit-requires c κs = tt
+digit-value-requires : tie.Need-digit-value-requires Inv-loop μ-loop
+digit-value-requires c κs = tt
 
 returns : tie.Need-returns Inv-loop μ-loop
 returns c = tt
@@ -58,8 +57,8 @@ decimal-spec =
     Inv-loop
     μ-loop
     loop-holds
-    shared-slice-read-digit
-    digit-requires
+    shared-slice-read-digit-value
+    digit-value-requires
     returns
     mul-n
     cast-n

@@ -1,6 +1,5 @@
 -- Each turn performs one event more; the length leaves 3 over a multiple of 5, so every event has its bytes, and no
 -- more events are idle than were performed. Assumes nothing.
-use Prim.{tt}
 use Prim.Native.Nat.{_≤_, _+_, _-_}
 use mathlib.Core.Logic.{⊎-elim}
 use native.Mathlib.Omega.{arith}

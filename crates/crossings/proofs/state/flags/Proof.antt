@@ -1,5 +1,4 @@
 -- Each turn leaves a word of the list behind, and its parts lie within the list. Assumes nothing.
-use Prim.{tt}
 use Prim.Native.Nat.{_≤_, _-_}
 use native.Mathlib.Omega.{arith}
 use lib.ListN.{length}

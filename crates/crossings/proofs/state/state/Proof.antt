@@ -1,5 +1,4 @@
 -- The process written stays within the ring. Assumes nothing.
-use Prim.{tt}
 use Prim.Native.Nat.{_≤_, _-_}
 use native.Mathlib.Omega.{arith}
 use Rattle.crossings.proofs.state.state.Statement.{statement}

@@ -1,5 +1,4 @@
--- Three digits, each at most 1. Assumes nothing.
-use Prim.{tt}
+-- Three bits, each at most 1 and at its own place, so the sum is the rule's and fits a byte. Assumes nothing.
 use native.Mathlib.Omega.{arith}
 use Rattle.record.proofs.process.flag_bits.Statement.{statement}
 use Rattle.record.proofs.process.flag_bits.Tie as tie

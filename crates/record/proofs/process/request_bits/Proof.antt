@@ -1,5 +1,4 @@
--- Four pairs of digits, each at most 3. Assumes nothing.
-use Prim.{tt}
+-- Four pairs of bits, each at most 3 and at its own place, so the sum is the rule's and fits a byte. Assumes nothing.
 use native.Mathlib.Omega.{arith}
 use Rattle.record.proofs.process.request_bits.Statement.{statement}
 use Rattle.record.proofs.process.request_bits.Tie as tie

@@ -1,5 +1,4 @@
 -- The place stays within the text, each turn leaves a word behind, and the bytes stay as many. Assumes nothing.
-use Prim.{tt}
 use Prim.Native.Nat.{_≤_, _-_}
 use mathlib.Core.Path.{_≡_}
 use native.Mathlib.Omega.{arith}

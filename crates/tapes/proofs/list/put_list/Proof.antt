@@ -1,5 +1,4 @@
 -- The event written stays below the count, and the list keeps its length. Assumes nothing.
-use Prim.{tt}
 use Prim.Native.Nat.{_≤_, _-_}
 use mathlib.Core.Path.{_≡_}
 use native.Mathlib.Omega.{arith}

@@ -1,5 +1,4 @@
 -- The block stays below the count of blocks. Assumes nothing.
-use Prim.{tt}
 use Prim.Native.Nat.{_≤_, _-_}
 use native.Mathlib.Omega.{arith}
 use Rattle.tapes.proofs.trip.say_checks.Statement.{statement}

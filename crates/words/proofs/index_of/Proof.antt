@@ -1,10 +1,9 @@
 -- Each turn leaves a word of the list behind, so no more words are counted than the list has bytes. Assumes nothing.
-use Prim.{tt}
 use Prim.Native.Nat.{_≤_, _-_}
 use native.Mathlib.Omega.{arith}
 use lib.ListN.{length}
-use Rattle.words.proofs.place.Statement.{statement}
-use Rattle.words.proofs.place.Tie as tie
+use Rattle.words.proofs.index_of.Statement.{statement}
+use Rattle.words.proofs.index_of.Tie as tie
 
 abbrev Inv-loop : tie.InvT-loop
 Inv-loop words word k₀ at₀ k at = (k ≤ at) × (at ≤ length words)
@@ -51,8 +50,8 @@ loop-again c = omega arith
 returns-3 : tie.Need-returns-3 Inv-loop μ-loop
 returns-3 c = tt
 
-pub place-spec : {M : Type 1} → statement M
-place-spec =
+pub index-of-spec : {M : Type 1} → statement M
+index-of-spec =
     tie.close
     (tie.spec
     Inv-loop
