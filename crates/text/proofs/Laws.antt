@@ -1,0 +1,82 @@
+-- Pieces of text one after the other are one piece. Assumes nothing.
+use Prim.Native.Nat.{ℕ, _+_, _/_, _%_, _≤_, _<_}
+use mathlib.Core.Path.{_≡_, ap, subst, _∙_}
+use mathlib.Core.List.{List, [], _∷_, _++_}
+use native.Mathlib.Omega.{arith}
+use lib.ListN.{length, set, length-append}
+use lib.Seq.{take-length}
+use Rattle.machine.specs.Bytes.{part, splice}
+use Rattle.machine.specs.Text.{decimal}
+use Rattle.machine.proofs.Bytes.{length-splice, splice-next}
+use Rattle.machine.proofs.Text.{decimal-one, decimal-more, length-one, length-more}
+use Rattle.span.proofs.Laws.{splice-none, splice-one}
+use Rattle.text.specs.Put.{Put}
+
+-- the same piece, said otherwise
+pub put-is : {s t : List ℕ} {at end : ℕ} {a b : List ℕ} → a ≡ b → Put s at a t end → Put s at b t end
+put-is {s} {t} {at} {end} e put = subst (λ (piece : List ℕ). Put s at piece t end) e put
+
+-- nothing
+pub put-none : (s : List ℕ) (at : ℕ) → at ≤ length s → Put s at [] s at
+put-none s at h = record { within = omega arith; written = splice-none s at; ends = omega arith }
+
+module _ {s t : List ℕ} {at end : ℕ} {a : List ℕ} (first : Put s at a t end) where
+  -- the buffer keeps its length
+  pub put-length : length t ≡ length s
+  put-length = ap length (first .written) ∙ length-splice s at a (first .within)
+
+  -- a piece, and then another
+  pub put-then : {u : List ℕ} {last : ℕ} {b : List ℕ} → Put t end b u last → Put s at (a ++ b) u last
+  put-then {u} {last} {b} second =
+      let long = length-append a b in
+      record {
+        within = omega (arith, put-length, second .within, first .ends);
+        written = go;
+        ends = omega (arith, first .ends, second .ends);
+      }
+    where
+      go : u ≡ splice s at (a ++ b)
+      go =
+          second .written
+          ∙ ap (λ (x : List ℕ). splice x end b) (first .written)
+          ∙ ap (λ (k : ℕ). splice (splice s at a) k b) (first .ends)
+          ∙ splice-next s at a b (omega (arith, first .within))
+
+  -- a piece, and then a byte
+  pub put-byte : (x : ℕ) → end < length t → Put s at (a ++ (x ∷ [])) (set t end x) (end + 1)
+  put-byte x h =
+      let long = length-append a (x ∷ []) in
+      record {
+        within = omega (arith, put-length, first .ends);
+        written = go;
+        ends = omega (arith, first .ends);
+      }
+    where
+      go : set t end x ≡ splice s at (a ++ (x ∷ []))
+      go =
+          ap (λ (y : List ℕ). set y end x) (first .written)
+          ∙ ap (λ (k : ℕ). set (splice s at a) k x) (first .ends)
+          ∙ splice-one s at a x (omega (arith, put-length, first .ends))
+
+-- ---- as the functions write them
+
+-- a text copied
+pub put-copied : (s t text : List ℕ) (at : ℕ) → at + length text ≤ length s
+    → t ≡ splice s at (part text 0 (length text))
+    → Put s at text t (at + length text)
+put-copied s t text at h is =
+    record { within = h; written = is ∙ ap (splice s at) (take-length text); ends = omega arith }
+
+module _ (s : List ℕ) (at n : ℕ) (h : at + length (decimal n) ≤ length s) where
+  -- a number below ten
+  pub put-digit : n < 10 → Put s at (decimal n) (set s at (48 + n)) (at + 1)
+  put-digit one =
+      rw (decimal-one n one)
+      (put-byte (put-none s at (omega arith)) (48 + n) (omega (arith, length-one n one)))
+
+  -- the last digit, behind those of a tenth
+  pub put-last : {t : List ℕ} {end : ℕ} → 10 ≤ n → Put s at (decimal (n / 10)) t end
+      → Put s at (decimal n) (set t end (48 + n % 10)) (end + 1)
+  put-last ten tenth =
+      rw (decimal-more n ten)
+      (put-byte tenth (48 + n % 10) (omega (arith, length-more n ten, put-length tenth, tenth .ends)))

@@ -1,0 +1,27 @@
+-- The number, and then one byte. Assumes nothing.
+use mathlib.Core.Path.{_∙_}
+use native.Mathlib.Omega.{arith}
+use lib.ListN.{length-set}
+use Rattle.text.proofs.Laws.{put-byte}
+use Rattle.text.proofs.decimal_field.Statement.{statement}
+use Rattle.text.proofs.decimal_field.Tie as tie
+
+put-decimal-requires : tie.Need-put-decimal-requires
+put-decimal-requires c κs = omega arith
+
+slice-write-out : tie.Need-slice-write-out
+slice-write-out c = omega arith
+
+add-result : tie.Need-add-result
+add-result c = omega arith
+
+same-length : tie.Need-same-length
+same-length c =
+    let p = c .before .before .put-decimal in
+    length-set (p .last .0) (p .result) _ ∙ p .kept .0
+
+returns : tie.Need-returns
+returns c = (put-byte (c .before .before .put-decimal .ensures) _ (omega arith), omega arith)
+
+pub decimal-field-spec : {M : Type 1} → statement M
+decimal-field-spec = tie.close (tie.spec put-decimal-requires slice-write-out add-result same-length returns)
