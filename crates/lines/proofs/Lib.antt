@@ -1,0 +1,2 @@
+-- Laws that the functions of this crate cite.
+pub mod Lines

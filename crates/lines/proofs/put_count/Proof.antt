@@ -1,0 +1,25 @@
+-- The name and a space, then the count, which has at most 20 digits, and the byte behind it. Assumes nothing.
+use native.Mathlib.Omega.{arith}
+use Rattle.machine.proofs.Text.{decimal-64}
+use Rattle.text.proofs.Laws.{put-then}
+use Rattle.lines.proofs.put_count.Statement.{statement}
+use Rattle.lines.proofs.put_count.Tie as tie
+
+text-field-requires : tie.Need-text-field-requires
+text-field-requires c κs = omega arith
+
+decimal-field-requires : tie.Need-decimal-field-requires
+decimal-field-requires c κs = omega (arith, decimal-64 (c .before .before .before .before .before .before .before .args .count) (omega arith))
+
+same-length : tie.Need-same-length
+same-length c = omega arith
+
+returns : tie.Need-returns
+returns c = (
+  put-then (c .before .before .before .before .before .before .text-field .ensures .0) (c .before .before .decimal-field .ensures .0),
+  omega (arith, decimal-64 (c .before .before .before .before .before .before .before .before .before .before .args .count) (omega arith)),
+)
+
+pub put-count-spec : {M : Type 1} → statement M
+put-count-spec =
+    tie.close (tie.spec text-field-requires decimal-field-requires same-length returns)

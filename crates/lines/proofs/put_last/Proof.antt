@@ -1,0 +1,45 @@
+-- One word by what is told. Assumes nothing.
+use native.Mathlib.Omega.{arith}
+use Rattle.machine.specs.Text.{text}
+use Rattle.lines.proofs.Lines.{last-stopped, last-moving}
+use Rattle.lines.proofs.put_last.Statement.{statement}
+use Rattle.lines.proofs.put_last.Tie as tie
+
+slice-aggregate-text-field : tie.Need-slice-aggregate-text-field
+slice-aggregate-text-field c = omega arith
+
+text-field-requires : tie.Need-text-field-requires
+text-field-requires c κs = omega arith
+
+slice-aggregate-text-field-2 : tie.Need-slice-aggregate-text-field-2
+slice-aggregate-text-field-2 c = omega arith
+
+text-field-requires-2 : tie.Need-text-field-requires-2
+text-field-requires-2 c κs = omega arith
+
+same-length : tie.Need-same-length
+same-length c = omega arith
+
+returns : tie.Need-returns
+unfolding text
+returns c = last-stopped (c .before .before .before .before .before .if1 .taken) (c .before .before .text-field .ensures .0)
+
+same-length-2 : tie.Need-same-length-2
+same-length-2 c = omega arith
+
+returns-2 : tie.Need-returns-2
+unfolding text
+returns-2 c = last-moving (c .before .before .before .before .before .if1 .left) (c .before .before .text-field2 .ensures .0)
+
+pub put-last-spec : {M : Type 1} → statement M
+put-last-spec =
+    tie.close
+    (tie.spec
+    slice-aggregate-text-field
+    text-field-requires
+    slice-aggregate-text-field-2
+    text-field-requires-2
+    same-length
+    returns
+    same-length-2
+    returns-2)
