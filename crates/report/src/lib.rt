@@ -1,0 +1,123 @@
+// What ringrun writes, as a function of its whole input. Document 01, "The tape", its last paragraph.
+use image::FreshAnswer;
+use image::Ring;
+use lines::put_counts;
+use lines::put_last;
+use lines::put_records;
+use lines::put_refusal;
+use machine::Refusal;
+use record::byte::wide64;
+use run::RunAnswer;
+use run::run;
+use span::copy;
+use stopped::StoppedAnswer;
+use stopped::stopped;
+ghost use mathlib.Core.Path.{_≡_};
+ghost use Prim.Native.Nat.{_≤_, _<_, min};
+ghost use lib.ListN.{length, getD};
+ghost use Rattle.machine.specs.declared.Verdict.the-variants as verdict;
+ghost use Rattle.machine.specs.Image.{sizeIn, stateIn};
+ghost use Rattle.machine.specs.Refusals.{codes, imageVerdict, tapeVerdict};
+ghost use Rattle.machine.specs.Answers.{runEvents};
+ghost use Rattle.machine.specs.Report.{ranText, textBy, reportText, reportAnswer, reportOutput};
+ghost use Rattle.text.specs.Put.{Put};
+ghost use Rattle.report.specs.Report.{saysYes, told};
+
+// N, home and 64 blocks: ringrun accepts no more bytes than these.
+pub const MOST_INPUT: usize = 32770;
+
+// No text has more bytes: 4,032 lines of at most 31, and two more of at most 183 and 8.
+pub const MOST_TEXT: usize = 125183;
+
+// What the report call answers: how many bytes the text has.
+pub enum ReportAnswer {
+    Done(usize),
+    Refused(Refusal),
+}
+
+// Byte k of the input, 0 where it is missing.
+fn given(input: &[u8], k: usize) -> u64
+    ensures { λ r. ⌜ (r ≡ getD (now (input .entry)) k 0) × (r < 256) ⌝ }
+{
+    if k < input.len() {
+        return wide64(input[k]);
+    }
+    0
+}
+
+// Where the blocks begin: behind N and home, or at the end of a shorter input.
+fn blocks_from(length: usize) -> usize
+    ensures { λ r. ⌜ r ≡ min 2 length ⌝ }
+{
+    if length < 2 { length } else { 2 }
+}
+
+// Whether the stopped call said yes.
+fn is_yes(answer: StoppedAnswer) -> bool
+    ensures { λ r. ⌜ r ≡ saysYes answer ⌝ }
+{
+    match answer {
+        StoppedAnswer::Yes => true,
+        StoppedAnswer::No => false,
+        StoppedAnswer::Refused(_) => false,
+    }
+}
+
+// The text of a tape of at most 64 blocks, performed from an image that is known to be sound: at the page's start.
+fn run_text(image: &mut [u8], tape: &[u8], page: &mut [u8]) -> usize
+    requires { ⌜ (imageVerdict (now image) ≡ verdict.Fine) × (length (now tape) ≤ 32768)
+        × (125183 ≤ length (now page)) ⌝ }
+    ensures { λ r. ⌜ Put (now (page .entry)) 0
+        (textBy (tapeVerdict codes (sizeIn (now (image .entry))) (now (tape .entry)))
+        (ranText (stateIn (now (image .entry))) (runEvents (now (tape .entry)))))
+        (now (page .exit)) r ⌝ }
+{
+    let mut ledger = [0; 48384];
+    let ran = run(image, tape, &mut ledger);
+    let RunAnswer::Done(counts) = ran else {
+        let RunAnswer::Refused(refusal) = ran else {
+            return put_refusal(page, Refusal::Length);
+        };
+        return put_refusal(page, refusal);
+    };
+    let lines = put_records(page, &ledger, counts.records as usize);
+    let last = put_counts(page, lines, counts);
+    put_last(page, last, is_yes(stopped(image)))
+}
+
+// The text of any input, at the page's start. A fresh ring is done or refused, so the inner else is never reached.
+fn whole_text(input: &[u8], page: &mut [u8]) -> usize
+    requires { ⌜ 125183 ≤ length (now page) ⌝ }
+    ensures { λ r. ⌜ Put (now (page .entry)) 0 (reportText (now (input .entry))) (now (page .exit)) r ⌝ }
+{
+    let mut image = [0; 528];
+    let fresh = Ring::fresh(given(input, 0), given(input, 1), &mut image);
+    let FreshAnswer::Done = fresh else {
+        let FreshAnswer::Refused(refusal) = fresh else {
+            return put_refusal(page, Refusal::Size);
+        };
+        return put_refusal(page, refusal);
+    };
+    if MOST_INPUT < input.len() {
+        return put_refusal(page, Refusal::Length);
+    }
+    let from = blocks_from(input.len());
+    run_text(&mut image, &input[from..], page)
+}
+
+// The report call: the text that ringrun writes for an input, at the start of the output, whose further bytes stay.
+// Refused with 10 for an output that is too short, and never for one of MOST_TEXT bytes; whatever is wrong with the input
+// is told by the text.
+pub fn report(input: &[u8], output: &mut [u8]) -> ReportAnswer
+    ensures answer { λ r. ⌜ told r ≡ reportAnswer (now (input .entry)) (now (output .entry)) ⌝ }
+    ensures buffer { λ _. ⌜ now (output .exit) ≡ reportOutput (now (input .entry)) (now (output .entry)) ⌝ }
+    ensures room { λ r. ⌜ (125183 ≤ length (now (output .entry)) → told r .number ≡ 0) ⌝ }
+{
+    let mut page = [0; MOST_TEXT];
+    let end = whole_text(input, &mut page);
+    if output.len() < end {
+        return ReportAnswer::Refused(Refusal::Output);
+    }
+    copy(&page, 0, output, 0, end);
+    ReportAnswer::Done(end)
+}
