@@ -72,6 +72,16 @@ pub fn tape(n: u64, list: &[u8]) -> Vec<u8> {
     tape
 }
 
+/// Gives a block the check that it should have: the sums as document 01 writes them.
+pub fn seal(block: &mut [u8]) {
+    let (mut a, mut b) = (0, 0);
+    for word in block[..4].chunks_exact(2).chain(block[8..512].chunks_exact(2)) {
+        a = (a + u32::from(word[0]) + 256 * u32::from(word[1])) % 65_535;
+        b = (b + a) % 65_535;
+    }
+    block[4..8].copy_from_slice(&(a + 65_536 * b).to_le_bytes());
+}
+
 /// A list of events drawn without a look at the ring: any process, any code, any message where the
 /// code is 0.
 pub fn uniform(n: u64, events: usize, random: &mut Random) -> Vec<u8> {

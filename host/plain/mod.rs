@@ -2,15 +2,16 @@
 //! alone.
 //!
 //! It is the other side of the differential tests and the baseline of the benchmark. It shares
-//! nothing with the proved library, has no `unsafe` and no heap, and works in place on the lent
-//! bytes. One submodule an idea:
+//! nothing with the proved library, has no `unsafe`, and works in place on the lent bytes, without a
+//! heap but for ringrun's text. One submodule an idea:
 //!
 //! - `answer`: refusals ("Where a call is turned down") and the result slice ("The tape"),
 //! - `image`: the bits of an image, soundness, the fresh ring, stopped ("The image", "Stopped"),
 //! - `event`: one event, tested and performed ("The eight events"),
 //! - `put`: what put does (event 7),
 //! - `tape`: the blocks, their check and test, writer and reader ("The tape"),
-//! - `run`: a tape of events with its ledger and counts ("The run").
+//! - `run`: a tape of events with its ledger and counts ("The run"),
+//! - `report`: what the program ringrun prints ("The tape").
 //!
 //! Every call is generic over a planted fault. `FAULT = 0` is the right one, and there the code of
 //! the faults vanishes when it is compiled; the others exist to show that the tests find them.
@@ -23,11 +24,13 @@ mod answer;
 mod event;
 mod image;
 mod put;
+mod report;
 mod run;
 mod tape;
 
 use answer::{answer, Refusal, LEAST_RESULT, OUTPUT_TOO_SHORT};
 use image::Ring;
+pub use report::{report, report_with};
 
 /// The planted faults 1 to 10, in their order.
 pub const FAULTS: [&str; 10] = [

@@ -9,7 +9,7 @@ mod guide;
 mod plain;
 
 #[allow(dead_code)]
-#[path = "plain/crossing_lists.rs"]
+#[path = "../samples/crossing_lists.rs"]
 mod crossing_lists;
 
 #[path = "differential/buffers.rs"]

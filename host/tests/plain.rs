@@ -1,12 +1,12 @@
-//! The plain implementation against document 01: its ten entries, the lists of crossings, and the
-//! refusals' order.
+//! The plain implementation against document 01: its ten entries, the lists of crossings, the
+//! refusals' order, and ringrun's text.
 
 #[path = "../guide/mod.rs"]
 mod guide;
 #[path = "../plain/mod.rs"]
 mod plain;
 
-#[path = "plain/crossing_lists.rs"]
+#[path = "../samples/crossing_lists.rs"]
 mod crossing_lists;
 #[path = "plain/crossings.rs"]
 mod crossings;
@@ -16,5 +16,7 @@ mod entries;
 mod faults;
 #[path = "plain/refusals.rs"]
 mod refusals;
+#[path = "plain/reports.rs"]
+mod reports;
 #[path = "plain/support.rs"]
 mod support;

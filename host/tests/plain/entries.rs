@@ -6,25 +6,6 @@ use crate::{guide, plain};
 const FIRST: &str = "1.0, 1.3, 1.7, 0.6, 0.7, 1.4, 1.7, 1.2, 1.3, 1.7, \
                      0.1, 0.3, 0.7, 1.5, 1.7, 0.4, 0.7, 0.2, 0.3, 0.7";
 
-/// What ringrun prints for a list: the ledger, the counts without records, then stopped or moving.
-fn printed(n: u64, home: u64, events: &[[u8; 8]]) -> String {
-    let mut image = guide::fresh(n, home);
-    let (answer, ledger) = run(&mut image, &tape(n, events), 12 * events.len());
-    assert_eq!(answer.number, 0);
-    let [puts, gets, fills, takes, sent, got, idle, records, ..] = answer.words;
-    let mut lines = String::new();
-    for record in ledger.chunks_exact(12).take(records as usize) {
-        let number = u32::from_le_bytes(record[..4].try_into().unwrap());
-        let message = u32::from_le_bytes(record[8..].try_into().unwrap());
-        let name = ["fill", "take", "sent", "got"][usize::from(record[5]) - 2];
-        assert_eq!(record[6..8], [0, 0]);
-        lines += &format!("{number} {} {name} {message}\n", record[4]);
-    }
-    lines += &format!("puts {puts} gets {gets} fills {fills} takes {takes} ");
-    lines += &format!("sent {sent} got {got} idle {idle}\n");
-    lines + if stopped(&image) { "stopped\n" } else { "moving\n" }
-}
-
 #[test]
 fn entry_1_prints_its_lines() {
     let lines = "7 1 fill 7\n14 1 sent 0\n17 0 take 7\n19 0 got 0\n\

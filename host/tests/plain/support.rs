@@ -1,6 +1,7 @@
 //! Small helpers of the tests: event lists as document 01 writes them, and calls with their
 //! answers.
 
+pub use crate::guide::seal as give_check;
 use crate::{guide, plain};
 
 /// The answer of a call: its number and the words of its result.
@@ -80,12 +81,17 @@ pub fn after(n: u64, home: u64, events: &[[u8; 8]]) -> (Vec<u8>, usize) {
     (image, idle)
 }
 
-/// Gives a block the check that it should have: the sums as document 01 writes them.
-pub fn give_check(block: &mut [u8]) {
-    let (mut a, mut b) = (0, 0);
-    for word in block[..4].chunks_exact(2).chain(block[8..512].chunks_exact(2)) {
-        a = (a + u32::from(word[0]) + 256 * u32::from(word[1])) % 65_535;
-        b = (b + a) % 65_535;
-    }
-    block[4..8].copy_from_slice(&(a + 65_536 * b).to_le_bytes());
+/// The input of ringrun for some events.
+pub fn input(n: u8, home: u8, events: &[[u8; 8]]) -> Vec<u8> {
+    [&[n, home], &tape(n.into(), events)[..]].concat()
+}
+
+/// What ringrun prints for some events.
+pub fn printed(n: u8, home: u8, events: &[[u8; 8]]) -> String {
+    report(&input(n, home, events))
+}
+
+/// What ringrun prints for an input.
+pub fn report(input: &[u8]) -> String {
+    String::from_utf8(plain::report(input)).unwrap()
 }
