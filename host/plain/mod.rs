@@ -30,7 +30,6 @@ mod tape;
 
 use answer::{answer, Refusal, LEAST_RESULT, OUTPUT_TOO_SHORT};
 use image::Ring;
-pub use report::{report, report_with};
 
 /// The planted faults 1 to 10, in their order.
 pub const FAULTS: [&str; 10] = [
@@ -143,6 +142,16 @@ fn read<const FAULT: u8>(n: u64, tape: &[u8], output: &mut [u8], result: usize) 
     room_for_result(result)?;
     tape::read(tape, output);
     Ok([output.len() as u64, 0, 0, 0, 0, 0, 0, 0])
+}
+
+/// The text that the program ringrun prints for its whole standard input.
+pub fn report(input: &[u8]) -> Vec<u8> {
+    report_with::<0>(input)
+}
+
+/// The same with a planted fault.
+pub fn report_with<const FAULT: u8>(input: &[u8]) -> Vec<u8> {
+    report::text::<FAULT>(input)
 }
 
 /// Refusal 1: N as an argument.

@@ -16,12 +16,7 @@ const RECORDED: [&str; 4] = ["fill", "take", "sent", "got"];
 const COUNTED: [&str; 7] = ["puts", "gets", "fills", "takes", "sent", "got", "idle"];
 
 /// The text that ringrun prints for its whole standard input.
-pub fn report(input: &[u8]) -> Vec<u8> {
-    report_with::<0>(input)
-}
-
-/// The same with a planted fault.
-pub fn report_with<const FAULT: u8>(input: &[u8]) -> Vec<u8> {
+pub fn text<const FAULT: u8>(input: &[u8]) -> Vec<u8> {
     let mut ledger = [0; LEDGER];
     let text = match played::<FAULT>(input, &mut ledger) {
         Ok(end) => end.text(&ledger),

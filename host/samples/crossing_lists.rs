@@ -1,5 +1,6 @@
 //! The lists of requests that cross the envelope on a link, each the shortest of its kind from the
-//! fresh ring with home 0: one for each kind, one for each way to begin, and the further kinds.
+//! fresh ring with home 0: one for each kind, one for each way to begin, and the further kinds; then
+//! the lists after which such a request keeps the envelope going round.
 
 /// A status, as the header has it and as requests are numbered: full is bit 0 of two bits, empty
 /// bit 1.
@@ -392,4 +393,34 @@ pub const CROSSINGS: [Crossing; 52] = [
         way: Way::Both,
         list: "0.1 0.3 1.0 1.3 1.7 0.6 0.7 1.4 1.7 1.2 1.3 1.7 1.0 1.3 1.7 0.6 0.7 2.4 2.7",
     },
+];
+
+/// Entry 10 of document 01, for N: the full marker stays set with no receiver, a put has ended alone,
+/// and the full envelope goes round.
+pub const ENTRY_10: [(u64, &str); 2] = [
+    (
+        2,
+        "0.1 1.0 1.3 1.7 0.6 0.7 0.3 0.7 1.5 1.7 0.5 1.4 1.7 1.2 1.3 1.7 0.4 0.7 0.2 0.3 0.7 0.0 \
+         0.3 0.7 0.2 0.3 0.7",
+    ),
+    (
+        3,
+        "1.0 1.3 2.1 2.3 2.7 1.5 1.7 0.6 0.7 0.5 0.7 1.4 1.7 1.2 1.3 1.7 2.4 2.5 2.7 2.2 2.3 2.7 \
+         2.0 2.3 2.7 2.2 2.3 2.7",
+    ),
+];
+
+/// Its mirror image, for N: the empty marker stays set with no sender, everybody is idle, and the
+/// empty envelope goes round.
+pub const MIRROR: [(u64, &str); 2] = [
+    (
+        2,
+        "0.0 0.3 0.7 0.2 0.3 1.1 1.3 1.7 0.5 0.7 0.0 0.3 0.7 1.6 1.7 0.6 1.4 1.7 1.2 1.3 1.7 0.4 \
+         0.7 0.2 0.3 1.1 1.3 1.7 0.5 0.7 1.4 1.7 1.2 1.3 1.7",
+    ),
+    (
+        3,
+        "0.0 0.3 0.7 0.2 0.3 1.1 1.3 2.0 2.3 2.7 1.6 1.7 0.5 0.7 0.1 0.3 0.6 0.7 1.4 1.7 1.2 1.3 \
+         1.7 2.4 2.5 2.7 2.2 2.3 2.7 0.4 0.7 0.2 0.3 0.7",
+    ),
 ];

@@ -1,6 +1,6 @@
 //! Every list of requests that cross the envelope: nowhere idle, and ending in the crossing named.
 
-use crate::crossing_lists::{Crossing, Status, Way, CROSSINGS, EMPTY, FULL};
+use crate::crossing_lists::{Crossing, Status, Way, CROSSINGS, EMPTY, ENTRY_10, FULL, MIRROR};
 use crate::support::*;
 
 const ARRIVING: u8 = 1 << 1;
@@ -82,28 +82,22 @@ fn every_kind_is_there_for_two_and_for_three() {
     }
 }
 
-/// A put that ended alone among three processes: full, its marker on, nobody receives.
+/// A put that ended alone: full, its marker on, nobody receives.
 #[test]
-fn a_put_ends_alone_among_three() {
-    let list = "1.0, 1.3, 2.1, 2.3, 2.7, 1.5, 1.7, 0.6, 0.7, 0.5, 0.7, 1.4, 1.7, 1.2, 1.3, 1.7, \
-                2.4, 2.5, 2.7, 2.2, 2.3, 2.7, 2.0, 2.3, 2.7, 2.2, 2.3, 2.7";
-    let (image, idle) = after(3, 0, &events(list));
-    assert_eq!((idle, image[1], image[2], stopped(&image)), (0, 1, 1, false));
-    assert!((0..3).all(|process| byte(&image, process, 0) == 0));
+fn a_put_ends_alone() {
+    for (n, list) in ENTRY_10 {
+        let (image, idle) = after(n, 0, &events(&list.replace(' ', ",")));
+        assert_eq!((idle, image[1], image[2], stopped(&image)), (0, 1, 1, false));
+        assert!((0..n as usize).all(|process| byte(&image, process, 0) == 0));
+    }
 }
 
 /// The like with empty: the empty marker on with no sender, everybody idle, and the ring does not
 /// stop.
 #[test]
 fn an_empty_envelope_goes_round() {
-    let two = "0.0, 0.3, 0.7, 0.2, 0.3, 1.1, 1.3, 1.7, 0.5, 0.7, 0.0, 0.3, 0.7, 1.6, 1.7, 0.6, \
-               1.4, 1.7, 1.2, 1.3, 1.7, 0.4, 0.7, 0.2, 0.3, 1.1, 1.3, 1.7, 0.5, 0.7, 1.4, 1.7, \
-               1.2, 1.3, 1.7";
-    let three = "0.0, 0.3, 0.7, 0.2, 0.3, 1.1, 1.3, 2.0, 2.3, 2.7, 1.6, 1.7, 0.5, 0.7, 0.1, 0.3, \
-                 0.6, 0.7, 1.4, 1.7, 1.2, 1.3, 1.7, 2.4, 2.5, 2.7, 2.2, 2.3, 2.7, 0.4, 0.7, 0.2, \
-                 0.3, 0.7";
-    for (n, list) in [(2, two), (3, three)] {
-        let (image, idle) = after(n, 0, &events(list));
+    for (n, list) in MIRROR {
+        let (image, idle) = after(n, 0, &events(&list.replace(' ', ",")));
         assert_eq!((idle, image[1], image[2], stopped(&image)), (0, 0, 2, false));
         assert!((0..n as usize).all(|process| byte(&image, process, 0) == 0));
     }

@@ -1,5 +1,6 @@
 //! The ten entries of document 01.
 
+use crate::crossing_lists::ENTRY_10;
 use crate::support::*;
 use crate::{guide, plain};
 
@@ -90,10 +91,9 @@ fn entry_9_needs_12_bytes_for_one_record() {
 
 #[test]
 fn entry_10_ends_a_put_alone() {
-    let list = "0.1, 1.0, 1.3, 1.7, 0.6, 0.7, 0.3, 0.7, 1.5, 1.7, 0.5, 1.4, 1.7, 1.2, 1.3, 1.7, \
-                0.4, 0.7, 0.2, 0.3, 0.7, 0.0, 0.3, 0.7, 0.2, 0.3, 0.7";
-    let list = events(list);
-    let (marked, _) = after(2, 0, &list[..21]);
+    let (n, list) = ENTRY_10[0];
+    let list = events(&list.replace(' ', ","));
+    let (marked, _) = after(n, 0, &list[..21]);
     assert_eq!((marked[2], stopped(&marked)), (1, true));
     assert!(marked.chunks_exact(8).skip(2).all(|record| record[0] < 6), "no receiver");
     let lines = printed(2, 0, &list);
