@@ -3,6 +3,7 @@
 
 use super::damage::{one_event, three_blocks, Damage};
 use super::Sample;
+use crate::guide;
 
 pub fn samples() -> Vec<Sample> {
     let groups = [arguments(), lengths(), checks(), half_checks(), headers(), events(), unused_slots()];
@@ -20,8 +21,8 @@ fn arguments() -> Vec<(String, Damage)> {
 
 /// 6: the tape is ragged.
 fn lengths() -> Vec<(String, Damage)> {
-    let named = |bytes: usize| (format!("6-{bytes}-bytes"), three_blocks().length(bytes));
-    [1, 511, 513, 1023].map(named).into()
+    let lengths = [("1-byte", 1), ("511-bytes", 511), ("513-bytes", 513), ("1023-bytes", 1023)];
+    lengths.map(|(what, bytes)| (format!("6-{what}"), three_blocks().length(bytes))).into()
 }
 
 /// 7: one byte altered, anywhere in a block; two events exchanged.
@@ -41,26 +42,25 @@ fn checks() -> Vec<(String, Damage)> {
     all
 }
 
-/// 7: a half of the check is 65,535 where 0 is right.
+/// 7: a half of the check is 65,535 where 0 is right. The message makes it 0.
 fn half_checks() -> Vec<(String, Damage)> {
-    let put = |message: u32| {
-        let [m0, m1, m2, m3] = message.to_le_bytes();
-        [0, 0, 0, 0, m0, m1, m2, m3]
-    };
+    let put = |message: u32| guide::event(0, 0, message);
     let first = |message| one_event().event(0, put(message));
-    let third = |message| three_blocks().event(126, put(message));
-    let lower = |damage: Damage, block| filled(damage, block, 4);
-    let upper = |damage: Damage, block| filled(damage, block, 6);
+    let last = |message| three_blocks().event(126, put(message));
     vec![
-        ("7-check-a-65535-block-0".into(), lower(first(65_534), 0)),
-        ("7-check-a-65535-block-2".into(), lower(third(65_532), 2)),
-        ("7-check-b-65535-block-0".into(), upper(first(3 * 65_536 + 13_103), 0)),
+        ("7-check-a-65535-block-0".into(), filled(first(65_534), 0, 4)),
+        ("7-check-a-65535-block-2".into(), filled(last(65_532), 2, 4)),
+        ("7-check-b-65535-block-0".into(), filled(first(209_711), 0, 6)),
+        ("7-check-b-65535-block-2".into(), filled(last(74_969), 2, 6)),
     ]
 }
 
 /// A half of a check set from 0 to 65,535.
-fn filled(damage: Damage, block: usize, at: usize) -> Damage {
-    damage.torn(block, at, 255).torn(block, at + 1, 255)
+fn filled(mut damage: Damage, block: usize, at: usize) -> Damage {
+    let half = &mut damage.block(block)[at..at + 2];
+    assert_eq!(half, [0, 0]);
+    half.fill(255);
+    damage
 }
 
 /// 8: another number, another count.

@@ -14,6 +14,8 @@ mod circling;
 mod files;
 #[path = "samples/planted.rs"]
 mod planted;
+#[path = "samples/proved.rs"]
+mod proved;
 #[path = "samples/refused.rs"]
 mod refused;
 #[path = "samples/script.rs"]

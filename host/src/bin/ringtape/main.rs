@@ -30,29 +30,35 @@ usage: ringtape make   < TEXT > INPUT    the bytes of a readable text
        ringtape expect < INPUT           what ringrun must print, by plain Rust
 ";
 
+/// What a command makes of its input, or what is wrong with it.
+type Command = fn(&[u8]) -> Result<Vec<u8>, String>;
+
 fn main() -> ExitCode {
-    let arguments: Vec<String> = std::env::args_os().skip(1).map(|word| word.to_string_lossy().into()).collect();
-    let command: fn(&[u8]) -> Result<Vec<u8>, String> = match arguments.iter().map(String::as_str).collect::<Vec<_>>()[..]
-    {
-        ["make"] => make::make,
-        ["show"] => |input| Ok(show::show(input).into_bytes()),
-        ["expect"] => |input| Ok(plain::report(input)),
-        _ => {
-            eprint!("{USAGE}");
-            return ExitCode::from(2);
-        }
+    let Some(command) = command() else {
+        eprint!("{USAGE}");
+        return ExitCode::from(2);
     };
-    match through(command) {
-        Ok(()) => ExitCode::SUCCESS,
-        Err(what) => {
-            eprintln!("ringtape: {what}");
-            ExitCode::from(1)
-        }
+    if let Err(what) = through(command) {
+        eprintln!("ringtape: {what}");
+        return ExitCode::from(1);
+    }
+    ExitCode::SUCCESS
+}
+
+/// The command that the one argument names.
+fn command() -> Option<Command> {
+    let mut arguments = std::env::args_os().skip(1);
+    let (Some(word), None) = (arguments.next(), arguments.next()) else { return None };
+    match word.to_str()? {
+        "make" => Some(make::make),
+        "show" => Some(|input| Ok(show::show(input).into_bytes())),
+        "expect" => Some(|input| Ok(plain::report(input))),
+        _ => None,
     }
 }
 
 /// Gives all of standard input to a command, and writes what it makes of it.
-fn through(command: fn(&[u8]) -> Result<Vec<u8>, String>) -> Result<(), String> {
+fn through(command: Command) -> Result<(), String> {
     let mut input = Vec::new();
     io::stdin().read_to_end(&mut input).map_err(|error| format!("standard input: {error}"))?;
     let output = command(&input)?;
