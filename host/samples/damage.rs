@@ -17,6 +17,11 @@ pub fn one_event() -> Damage {
     Damage(Play::fresh(2, 0).then("1.0").input())
 }
 
+/// An input of 64 processes, home 63, with one block of 10 events, and nothing wrong.
+pub fn greatest_ring() -> Damage {
+    Damage(Play::fresh(64, 63).guided(10, 1).input())
+}
+
 impl Damage {
     /// Another N, another home.
     pub fn n(mut self, n: u8) -> Damage {
@@ -66,6 +71,7 @@ impl Damage {
         self
     }
 
+    /// The bytes of a block.
     pub fn block(&mut self, block: usize) -> &mut [u8] {
         &mut self.0[2 + 512 * block..][..512]
     }

@@ -19,8 +19,9 @@ const ONE_WAY: [(&str, u64, &str); 11] = [
 ];
 
 pub fn samples() -> Vec<Sample> {
-    let one_way = ONE_WAY.into_iter();
-    one_way
-        .map(|(what, home, list)| Sample::new(format!("moving-{what}"), Play::fresh(2, home).then(list).input()))
-        .collect()
+    let sample = |(what, home, list)| {
+        let play = Play::fresh(2, home).then(list);
+        Sample::new(format!("moving-{what}"), play.input())
+    };
+    ONE_WAY.map(sample).into()
 }

@@ -1,7 +1,7 @@
 //! Each refusal that ringrun can give, by each of its causes, at the start of a tape and further on.
 //! Empty and overlong inputs, which are refused too, are among the sizes.
 
-use super::damage::{one_event, three_blocks, Damage};
+use super::damage::{greatest_ring, one_event, three_blocks, Damage};
 use super::Sample;
 use crate::guide;
 
@@ -78,7 +78,8 @@ fn headers() -> Vec<(String, Damage)> {
     numbers.into_iter().chain(counts).chain(alone).chain([upper]).collect()
 }
 
-/// 5: each wrong event in block 0 and in block 1, and one at the ends of the blocks.
+/// 5: each wrong event in block 0 and in block 1, one in the greatest ring, and one at the ends of the
+/// blocks.
 fn events() -> Vec<(String, Damage)> {
     let wrong = [
         ("process-n", [3, 7, 0, 0, 0, 0, 0, 0]),
@@ -96,6 +97,7 @@ fn events() -> Vec<(String, Damage)> {
             all.push((format!("5-{what}-at-{number}"), three_blocks().event(number, event)));
         }
     }
+    all.push(("5-process-64-of-64-at-9".into(), greatest_ring().event(9, [64, 7, 0, 0, 0, 0, 0, 0])));
     for number in [0, 62, 63, 125, 126] {
         all.push((format!("5-code-8-at-{number}"), three_blocks().event(number, [1, 8, 0, 0, 0, 0, 0, 0])));
     }

@@ -18,16 +18,16 @@ fn faults(input: &[u8]) -> BTreeSet<Fault> {
     let n = input.first().copied().unwrap_or(0);
     let home = input.get(1).copied().unwrap_or(0);
     let tape = input.get(2..).unwrap_or_default();
-    let mut faults = BTreeSet::new();
-    faults.extend([
-        (n < 2).then_some((1, "N below 2", false)),
-        (n > 64).then_some((1, "N above 64", false)),
-        (home >= n).then_some((2, "home not below N", false)),
-        tape.is_empty().then_some((6, "tape empty", false)),
-        (!tape.len().is_multiple_of(512)).then_some((6, "tape ragged", false)),
-        (tape.len() > 64 * 512).then_some((6, "tape too long", false)),
-    ]);
-    let mut faults: BTreeSet<Fault> = faults.into_iter().flatten().collect();
+    let of_input = [
+        (1, "N below 2", n < 2),
+        (1, "N above 64", n > 64),
+        (2, "home not below N", home >= n),
+        (6, "tape empty", tape.is_empty()),
+        (6, "tape ragged", !tape.len().is_multiple_of(512)),
+        (6, "tape too long", tape.len() > 64 * 512),
+    ];
+    let mut faults: BTreeSet<Fault> =
+        of_input.into_iter().filter(|(.., is)| *is).map(|(number, cause, _)| (number, cause, false)).collect();
     let whole = tape.len() / 512;
     for (at, block) in tape.chunks_exact(512).enumerate() {
         let wrong = block_faults(block, n, at, at + 1 == whole);
@@ -57,17 +57,17 @@ fn block_faults(block: &[u8], n: u8, at: usize, last: bool) -> Vec<(u8, &'static
         (5, "message with a code not 0", used.iter().any(|event| event[1] != 0 && event[4..] != [0; 4])),
         (9, "unused slot not zero", unused.iter().any(|slot| **slot != [0; 8])),
     ];
-    wrong.into_iter().filter(|(_, _, is)| *is).map(|(number, cause, _)| (number, cause)).collect()
+    wrong.into_iter().filter(|(.., is)| *is).map(|(number, cause, _)| (number, cause)).collect()
 }
 
-/// The causes of a refused sample's own refusal. Where there is one block or the fault is the only one,
-/// they are all that the refusal can mean.
+/// Those of a sample's faults that have the number of its refusal.
 fn causes(sample: &Sample) -> BTreeSet<Fault> {
     let Some((refused, _)) = refusal(sample) else { return BTreeSet::new() };
     faults(&sample.input).into_iter().filter(|(number, _, _)| *number == refused).collect()
 }
 
-/// Every cause that the table names and a ringrun can meet. An event is never other than 8 bytes here.
+/// Every cause that the table names and a ringrun can meet has a sample with no other cause of the same
+/// refusal. An event is never other than 8 bytes here.
 #[test]
 fn every_cause_is_there_at_the_start_and_further_on() {
     let once: [Fault; 6] = [
@@ -102,7 +102,7 @@ fn every_cause_is_there_at_the_start_and_further_on() {
     }
 }
 
-/// A name says the number, and the place where it is not 0 for certain.
+/// A name says the refusal's number, and its place where that may be other than 0.
 #[test]
 fn names_say_what_is_refused() {
     for sample in all() {
