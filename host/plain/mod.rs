@@ -1,9 +1,9 @@
 //! The ring of processes with one envelope, a second time: plain Rust written from document 01
 //! alone.
 //!
-//! It is the other side of the differential tests and the baseline of the benchmark. It shares
-//! nothing with the proved library, has no `unsafe`, and works in place on the lent bytes, without a
-//! heap but for ringrun's text. One submodule an idea:
+//! It is the other side of the differential tests, the baseline of the benchmark, and says what
+//! ringrun must print for its samples. It shares nothing with the proved library, has no `unsafe`, and
+//! works in place on the lent bytes, without a heap but for ringrun's text. One submodule an idea:
 //!
 //! - `answer`: refusals ("Where a call is turned down") and the result slice ("The tape"),
 //! - `image`: the bits of an image, soundness, the fresh ring, stopped ("The image", "Stopped"),

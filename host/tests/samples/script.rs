@@ -25,6 +25,12 @@ fn copied(folder_name: &str, samples: &[&str]) -> PathBuf {
     copy
 }
 
+/// What differs from a file, then the same from a pipe.
+fn both(what: &str) -> String {
+    let piped: Vec<String> = what.split(' ').map(|word| format!("piped-{word}")).collect();
+    format!("{what} {}", piped.join(" "))
+}
+
 /// That the script failed, named just these samples with what differs, and counted them and the others.
 fn finds(output: Output, differing: &[&str], what: &str, matched: usize) {
     assert_eq!((output.status.code(), &output.stderr[..]), (Some(1), &b""[..]));
@@ -50,7 +56,7 @@ fn a_program_that_prints_every_text_passes() {
 fn one_that_prints_nothing_differs_everywhere() {
     let samples = all();
     let names: Vec<&str> = samples.iter().map(|sample| &sample.name[..]).collect();
-    finds(check(&folder(), &["true"]), &names, "output", 0);
+    finds(check(&folder(), &["true"]), &names, &both("output"), 0);
 }
 
 /// A program that is `ringtape expect` with something after it.
@@ -59,16 +65,17 @@ fn whatever_differs_is_found_and_named() {
     let names = ["entry-01", "mirror-n2", "refused-2-n-4-home-4", "size-nothing"];
     let few = copied("few", &names);
     let with = |rest: &str| check(&few, &["sh", "-c", &format!("\"$0\" expect {rest}"), RINGTAPE]);
-    finds(with("; echo"), &names, "output", 0);
-    finds(with("; echo noise >&2"), &names, "standard-error", 0);
-    finds(with("; exit 3"), &names, "exit-status-3", 0);
-    finds(with("; echo; echo noise >&2; exit 1"), &names, "output standard-error exit-status-1", 0);
-    finds(with("| tr -d '\\n'"), &names, "output", 0);
-    finds(with("| sed 's/^refused 2 at 0$/refused 2 at 1/'"), &names[2..3], "output", 3);
-    finds(with("| sed 's/moving/stopped/'"), &names[1..2], "output", 3);
+    finds(with("; echo"), &names, &both("output"), 0);
+    finds(with("; echo noise >&2"), &names, &both("standard-error"), 0);
+    finds(with("; exit 3"), &names, &both("exit-status-3"), 0);
+    finds(with("; echo; echo noise >&2; exit 1"), &names, &both("output standard-error exit-status-1"), 0);
+    finds(with("| tr -d '\\n'"), &names, &both("output"), 0);
+    finds(with("| sed 's/^refused 2 at 0$/refused 2 at 1/'"), &names[2..3], &both("output"), 3);
+    finds(with("| sed 's/moving/stopped/'"), &names[1..2], &both("output"), 3);
+    finds(with("; if [ -p /dev/stdin ]; then echo; fi"), &names, "piped-output", 0);
     assert!(with("").status.success());
     fs::remove_file(few.join("size-nothing.out")).unwrap();
-    finds(with(""), &names[3..], "output", 3);
+    finds(with(""), &names[3..], &both("output"), 3);
 }
 
 #[test]
