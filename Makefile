@@ -1,6 +1,9 @@
 # make test: the gate. The layout, then every listed crate proved from nothing with its must-fail edits and programs,
-# then the archives of the host library, made of what was proved, and the Rust package's tests over them, then rt ci's
-# own closing line as the very last line, which is printed only if all of that passed.
+# then the archives of the host library, made of what was proved, and the Rust package's tests over them, then every
+# sample through ringrun, then rt ci's own closing line as the very last line, which is printed only if all of that
+# passed.
+#
+# make run: builds ringrun, proved, and runs it on a sample, or on the file that IN names.
 #
 # make bench: the proved library and plain Rust, timed side by side on this machine (docs/PERFORMANCE.md).
 #
@@ -9,7 +12,8 @@
 # archive isn't there fails here.
 
 SHELL := /bin/sh
-.PHONY: test bench
+IN = samples/entry-01.in
+.PHONY: test run bench
 
 test:
 	@set -eu; \
@@ -24,7 +28,12 @@ test:
 	rt staticlib ring_host; \
 	rt staticlib tape_host; \
 	(cd host && cargo test --release --offline --quiet -- --include-ignored); \
+	samples/check target/bin/ringrun; \
 	echo "$$closing"
+
+run:
+	@rt check ringrun >&2
+	@target/bin/ringrun <'$(IN)'
 
 bench:
 	@set -eu; \
