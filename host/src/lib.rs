@@ -77,6 +77,11 @@ pub use event::Event;
 pub use ledger::{records, Record, Records};
 pub use refusal::Refusal;
 
+/// The example of the repository's README, compiled with the examples here.
+#[cfg(doctest)]
+#[doc = include_str!("../../README.md")]
+struct Readme;
+
 /// The bytes of a result slice.
 const RESULT: usize = 80;
 
