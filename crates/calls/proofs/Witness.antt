@@ -1,6 +1,6 @@
 -- The demand is not empty: entry 1's events by a run, a step and another run, with refused and stopped calls in
--- between, make a list that ends stopped, with all that can happen in it; and the suite's host is told of a start and
--- of a stopped ring. The checker computes it. Assumes nothing.
+-- between, make a list that ends stopped, with all that can happen in it; and the same list by the suite's host shows
+-- the same to it. The checker computes both. Assumes nothing.
 use Prim.Native.Nat.{ℕ, _≤_, _<_}
 use mathlib.Core.Path.{_≡_, refl}
 use mathlib.Core.Bool.{Bool, true}
@@ -22,8 +22,8 @@ use Rattle.machine.proofs.Entries.{firstTen, lastTen, ring}
 use Rattle.calls.specs.Calls.{Call, imageAfterAll, ledgerMessages, shownByAll}
 use Rattle.calls.specs.Calls.Call.{Step, Run, Stopped}
 use Rattle.calls.specs.Demand.{SaysStopped, Promised, given, GivenBytes}
-use Rattle.calls.specs.Suite.{HostCall, hostShownAll, TellsStopped}
-use Rattle.calls.specs.Suite.HostCall.{Step as HostStep}
+use Rattle.calls.specs.Suite.{HostCall, hostImageAll, hostShownAll, TellsStopped}
+use Rattle.calls.specs.Suite.HostCall.{Step as HostStep, Run as HostRun, Stopped as HostStopped}
 use Rattle.calls.proofs.Demand.{demand-three}
 
 -- a tape whose event 1 is at process 2
@@ -54,16 +54,25 @@ all-ended = (refl, refl)
 abbrev result : List ℕ
 result = replicate 81 255
 
--- a get is started, first with a result slice that is a byte too short: that call shows nothing
-unfoldable pub hostCalls : List HostCall
-hostCalls = HostStep (event 0 1 0) (replicate 79 255) ∷ HostStep (event 0 1 0) result ∷ []
+-- and one that is a byte too short: such a call shows nothing and leaves the image
+abbrev short : List ℕ
+short = replicate 79 255
 
--- before them the ring is told to be stopped
-pub one-told :
-    (hostShownAll ring hostCalls ≡ record { puts = 0; gets = 1; sent = 0; got = 0; filled = []; taken = [] })
-    × TellsStopped ring result
-unfolding rules ring hostCalls hostShownAll returned wordsOf resultBytes resultAfter lentWith
-one-told = (refl, (refl, refl))
+-- the same calls by the host, a run and the step first with the short slice
+unfoldable pub hostCalls : List HostCall
+hostCalls =
+    HostStep [] result ∷ HostRun offRing [] result
+    ∷ HostRun (tapeOf firstTen) (replicate 12 255) short ∷ HostRun (tapeOf firstTen) (replicate 12 255) result
+    ∷ HostStopped result ∷ HostStep (event 0 1 0) short ∷ HostStep (event 0 1 0) result
+    ∷ HostRun (tapeOf (drop 8 lastTen)) (replicate 37 255) result ∷ HostStopped result ∷ []
+
+-- they show the same to the host, and it is then told that the ring is stopped
+pub all-told :
+    (hostShownAll ring hostCalls ≡ record { puts = 1; gets = 1; sent = 1; got = 1; filled = 7 ∷ []; taken = 7 ∷ [] })
+    × TellsStopped (hostImageAll ring hostCalls) result
+unfolding rules ring firstTen lastTen offRing hostCalls hostImageAll hostShownAll ledgerMessages returned wordsOf
+    resultBytes resultAfter lentWith
+all-told = (refl, (refl, refl))
 
 -- ---- the demand speaks of this list
 
