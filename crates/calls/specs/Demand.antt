@@ -21,7 +21,7 @@ unfoldable pub flagsSet : List ℕ → ℕ → ℕ
 flagsSet image zero = 0
 flagsSet image (suc i) = flagsSet image i + bit (bitOf (flagsAt image i) 0) + bit (bitOf (flagsAt image i) 1)
 
--- the envelope is full when header byte 1 is 1, and header bytes 8 to 11 are then its own message
+-- the message in header bytes 8 to 11, if byte 1 says that the envelope is full
 abbrev pub ownMessageIn : List ℕ → List ℕ
 ownMessageIn image = messageIf (eqb (getD image 1 0) 1) (number image 8 4)
 

@@ -15,35 +15,35 @@ use Rattle.machine.specs.Text.{text, decimal, space, lineFeed, line}
 use Rattle.machine.specs.Refusals.{numberOf, placeOf}
 use Rattle.machine.specs.Report.{codeWord, recordLine, recordLines, countsLine, lastLine, refusalLine}
 use Rattle.machine.proofs.Text.{line-more}
-use Rattle.text.specs.Put.{Put}
+use Rattle.text.specs.Piece.{Piece}
 use Rattle.blocks.proofs.Joined.{join-more}
-use Rattle.text.proofs.Laws.{put-none, put-then}
+use Rattle.text.proofs.Laws.{piece-none, piece-then}
 
 -- the last field of a line
-pub field-last : {s t : List ℕ} {at end : ℕ} (f : List ℕ) → Put s at (f ++ (lineFeed ∷ [])) t end → Put s at (line f []) t end
+pub field-last : {s t : List ℕ} {at end : ℕ} (f : List ℕ) → Piece s at (f ++ (lineFeed ∷ [])) t end → Piece s at (line f []) t end
 unfolding line
 field-last f put = put
 
 -- a field, and the line from the next one on
 pub field-then : {s t u : List ℕ} {at mid end : ℕ} (f g : List ℕ) (fs : List (List ℕ))
-    → Put s at (f ++ (space ∷ [])) t mid → Put t mid (line g fs) u end
-    → Put s at (line f (g ∷ fs)) u end
-field-then f g fs first rest = rw (line-more f g fs) (put-then first rest)
+    → Piece s at (f ++ (space ∷ [])) t mid → Piece t mid (line g fs) u end
+    → Piece s at (line f (g ∷ fs)) u end
+field-then f g fs first rest = rw (line-more f g fs) (piece-then first rest)
 
 -- two fields that end the line
 pub pair-last : {s t : List ℕ} {at end : ℕ} (f g : List ℕ)
-    → Put s at ((f ++ (space ∷ [])) ++ (g ++ (lineFeed ∷ []))) t end
-    → Put s at (line f (g ∷ [])) t end
+    → Piece s at ((f ++ (space ∷ [])) ++ (g ++ (lineFeed ∷ []))) t end
+    → Piece s at (line f (g ∷ [])) t end
 unfolding line
 pair-last f g put = rw (line-more f g []) put
 
 -- two fields, and the line from the next one on
 pub pair-then : {s t u : List ℕ} {at mid end : ℕ} (f g h : List ℕ) (fs : List (List ℕ))
-    → Put s at ((f ++ (space ∷ [])) ++ (g ++ (space ∷ []))) t mid → Put t mid (line h fs) u end
-    → Put s at (line f (g ∷ h ∷ fs)) u end
+    → Piece s at ((f ++ (space ∷ [])) ++ (g ++ (space ∷ []))) t mid → Piece t mid (line h fs) u end
+    → Piece s at (line f (g ∷ h ∷ fs)) u end
 pair-then f g h fs first rest =
     rw (line-more f g (h ∷ fs), line-more g h fs, ← append-assoc (f ++ (space ∷ [])) (g ++ (space ∷ [])) (line h fs))
-    (put-then first rest)
+    (piece-then first rest)
 
 -- ---- a record's line
 
@@ -71,8 +71,8 @@ module _ (code : ℕ) where
 
 -- a code's word and a space, once it is known which word that is
 pub coded : {s t : List ℕ} {at end : ℕ} (code : ℕ) {word : List ℕ} → codeWord code ≡ word
-    → Put s at (word ++ (space ∷ [])) t end
-    → Put s at (codeWord code ++ (space ∷ [])) t end
+    → Piece s at (word ++ (space ∷ [])) t end
+    → Piece s at (codeWord code ++ (space ∷ [])) t end
 coded code is put = rw is put
 
 -- event, process, word, message
@@ -80,9 +80,9 @@ module _ (ledger : List ℕ) (k : ℕ) {event process code message : ℕ} (is-ev
     (is-process : process ≡ getD ledger (12 * k + 4) 0) (is-code : code ≡ getD ledger (12 * k + 5) 0)
     (is-message : message ≡ number ledger (12 * k + 8) 4) where
   pub record-lined : {s t u v w : List ℕ} {at b c d e : ℕ}
-      → Put s at (decimal event ++ (space ∷ [])) t b → Put t b (decimal process ++ (space ∷ [])) u c
-      → Put u c (codeWord code ++ (space ∷ [])) v d → Put v d (decimal message ++ (lineFeed ∷ [])) w e
-      → Put s at (recordLine ledger k) w e
+      → Piece s at (decimal event ++ (space ∷ [])) t b → Piece t b (decimal process ++ (space ∷ [])) u c
+      → Piece u c (codeWord code ++ (space ∷ [])) v d → Piece v d (decimal message ++ (lineFeed ∷ [])) w e
+      → Piece s at (recordLine ledger k) w e
   unfolding recordLine
   record-lined first second third fourth =
       rw (← is-event, ← is-process, ← is-code, ← is-message)
@@ -97,14 +97,14 @@ abbrev pub countPiece : List ℕ → ℕ → ℕ → List ℕ
 countPiece name count behind = (name ++ (space ∷ [])) ++ (decimal count ++ (behind ∷ []))
 
 pub counts-lined : (n : Counts) {s₀ s₁ s₂ s₃ s₄ s₅ s₆ s₇ : List ℕ} {a₀ a₁ a₂ a₃ a₄ a₅ a₆ a₇ : ℕ}
-    → Put s₀ a₀ (countPiece (text "puts") (n .puts) space) s₁ a₁
-    → Put s₁ a₁ (countPiece (text "gets") (n .gets) space) s₂ a₂
-    → Put s₂ a₂ (countPiece (text "fills") (n .fills) space) s₃ a₃
-    → Put s₃ a₃ (countPiece (text "takes") (n .takes) space) s₄ a₄
-    → Put s₄ a₄ (countPiece (text "sent") (n .sent) space) s₅ a₅
-    → Put s₅ a₅ (countPiece (text "got") (n .got) space) s₆ a₆
-    → Put s₆ a₆ (countPiece (text "idle") (n .idle) lineFeed) s₇ a₇
-    → Put s₀ a₀ (countsLine n) s₇ a₇
+    → Piece s₀ a₀ (countPiece (text "puts") (n .puts) space) s₁ a₁
+    → Piece s₁ a₁ (countPiece (text "gets") (n .gets) space) s₂ a₂
+    → Piece s₂ a₂ (countPiece (text "fills") (n .fills) space) s₃ a₃
+    → Piece s₃ a₃ (countPiece (text "takes") (n .takes) space) s₄ a₄
+    → Piece s₄ a₄ (countPiece (text "sent") (n .sent) space) s₅ a₅
+    → Piece s₅ a₅ (countPiece (text "got") (n .got) space) s₆ a₆
+    → Piece s₆ a₆ (countPiece (text "idle") (n .idle) lineFeed) s₇ a₇
+    → Piece s₀ a₀ (countsLine n) s₇ a₇
 unfolding countsLine
 counts-lined n puts gets fills takes sent got idle =
     pair-then _ _ _ _ puts
@@ -117,9 +117,9 @@ counts-lined n puts gets fills takes sent got idle =
 
 pub refusal-lined : (r : Refusal) {number place : ℕ} → number ≡ numberOf r → place ≡ placeOf r
     → {s t u v w : List ℕ} {at b c d e : ℕ}
-    → Put s at (text "refused" ++ (space ∷ [])) t b → Put t b (decimal number ++ (space ∷ [])) u c
-    → Put u c (text "at" ++ (space ∷ [])) v d → Put v d (decimal place ++ (lineFeed ∷ [])) w e
-    → Put s at (refusalLine r) w e
+    → Piece s at (text "refused" ++ (space ∷ [])) t b → Piece t b (decimal number ++ (space ∷ [])) u c
+    → Piece u c (text "at" ++ (space ∷ [])) v d → Piece v d (decimal place ++ (lineFeed ∷ [])) w e
+    → Piece s at (refusalLine r) w e
 unfolding refusalLine
 refusal-lined r {number} {place} is-number is-place first second third fourth =
     rw (← is-number, ← is-place)
@@ -130,25 +130,25 @@ refusal-lined r {number} {place} is-number is-place first second third fourth =
 -- ---- records one after the other
 
 -- none
-pub records-none : (s ledger : List ℕ) → Put s 0 (recordLines ledger 0) s 0
+pub records-none : (s ledger : List ℕ) → Piece s 0 (recordLines ledger 0) s 0
 unfolding recordLines tabulate join
-records-none s ledger = put-none s 0 (omega arith)
+records-none s ledger = piece-none s 0 (omega arith)
 
 -- one more
-pub records-more : {s t u : List ℕ} {at end : ℕ} (ledger : List ℕ) (k : ℕ) → Put s 0 (recordLines ledger k) t at
-    → Put t at (recordLine ledger k) u end
-    → Put s 0 (recordLines ledger (k + 1)) u end
+pub records-more : {s t u : List ℕ} {at end : ℕ} (ledger : List ℕ) (k : ℕ) → Piece s 0 (recordLines ledger k) t at
+    → Piece t at (recordLine ledger k) u end
+    → Piece s 0 (recordLines ledger (k + 1)) u end
 unfolding recordLines
 records-more ledger k before next =
-    rw (join-more (recordLine ledger) 0 k) (put-then before (rw (zero-add k) next))
+    rw (join-more (recordLine ledger) 0 k) (piece-then before (rw (zero-add k) next))
 
 -- ---- the last line
 
 module _ {s t : List ℕ} {at end : ℕ} {stopped : Bool} where
-  pub last-stopped : stopped ≡ true → Put s at (text "stopped" ++ (lineFeed ∷ [])) t end → Put s at (lastLine stopped) t end
+  pub last-stopped : stopped ≡ true → Piece s at (text "stopped" ++ (lineFeed ∷ [])) t end → Piece s at (lastLine stopped) t end
   unfolding lastLine line
   last-stopped is put = rw is put
 
-  pub last-moving : stopped ≡ false → Put s at (text "moving" ++ (lineFeed ∷ [])) t end → Put s at (lastLine stopped) t end
+  pub last-moving : stopped ≡ false → Piece s at (text "moving" ++ (lineFeed ∷ [])) t end → Piece s at (lastLine stopped) t end
   unfolding lastLine line
   last-moving is put = rw is put

@@ -33,7 +33,8 @@ use Rattle.machine.proofs.Balance.Witness.{at}
 
 -- ---- a put may end alone
 
--- two processes: 0 asks for full; 1 passes that on to 0 again, while the envelope is on its way to 1
+-- two processes: 1 asks for empty, and 0 lets the envelope leave; then 0 asks for full, and 1 passes that on to 0 again,
+-- while the envelope is on its way to 1
 unfoldable pub twoCross : List Event
 twoCross =
     at 0 1 0 ∷ at 1 0 2 ∷ at 1 3 0 ∷ at 1 7 0 ∷ at 0 6 0 ∷ at 0 7 0 ∷ at 0 3 0 ∷ at 0 7 0 ∷ at 1 5 0 ∷ at 1 7 0 ∷ []

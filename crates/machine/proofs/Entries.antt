@@ -100,14 +100,14 @@ pub entry-7 :
 unfolding rules
 entry-7 = (refl, refl, refl, refl, refl, refl)
 
--- 63 events make one block, 64 make two
+-- a block that is full, and one event more, which takes a second
 pub entry-8 :
     (writeAnswer 2 (copies 63 (event 1 7 0)) (replicate 1024 0) ≡ done (512 ∷ []))
     × (writeAnswer 2 (copies 64 (event 1 7 0)) (replicate 1024 0) ≡ done (1024 ∷ []))
 unfolding rules
 entry-8 = (refl, refl)
 
--- an output of 12 bytes holds one record, of 11 none
+-- room for just one record, and a byte too little for it
 pub entry-9 :
     (runAnswer mayFill (tapeOf (event 1 2 0)) (replicate 12 0) ≡ done (0 ∷ 0 ∷ 1 ∷ 0 ∷ 0 ∷ 0 ∷ 0 ∷ 1 ∷ []))
     × (runLedger mayFill (tapeOf (event 1 2 0)) (replicate 12 0) ≡ 0 ∷ 0 ∷ 0 ∷ 0 ∷ 1 ∷ 2 ∷ 0 ∷ 0 ∷ 7 ∷ 0 ∷ 0 ∷ 0 ∷ [])

@@ -10,7 +10,7 @@ use native.Mathlib.Nat.{pow-suc}
 use lib.ListN.{length, length-append}
 use lib.Dec.{ltb}
 use borrow.Author.Tests.{ltb-false, lt-ltb, le-ltb}
-use Rattle.machine.specs.Text.{digit, digits, decimal, space, line}
+use Rattle.machine.specs.Text.{digitCode, digits, decimal, space, line}
 use Rattle.machine.proofs.Bytes.{lt-or-ge}
 
 -- ---- in decimal
@@ -24,22 +24,22 @@ turns-enough (suc a) (suc b) n h g =
     go (ltb n 10) (λ off. let ten = ltb-false n 10 off in turns-enough a b (n / 10) (omega arith) (omega arith)) refl
   where
     go : (t : Bool) → (ltb n 10 ≡ false → digits a (n / 10) ≡ digits b (n / 10)) → ltb n 10 ≡ t
-        → cond t (digit n ∷ []) (digits a (n / 10) ++ (digit (n % 10) ∷ []))
-        ≡ cond t (digit n ∷ []) (digits b (n / 10) ++ (digit (n % 10) ∷ []))
+        → cond t (digitCode n ∷ []) (digits a (n / 10) ++ (digitCode (n % 10) ∷ []))
+        ≡ cond t (digitCode n ∷ []) (digits b (n / 10) ++ (digitCode (n % 10) ∷ []))
     go true tenth e = refl
-    go false tenth e = ap (λ (l : List ℕ). l ++ (digit (n % 10) ∷ [])) (tenth e)
+    go false tenth e = ap (λ (l : List ℕ). l ++ (digitCode (n % 10) ∷ [])) (tenth e)
 
 -- below ten: one digit
-pub decimal-one : (n : ℕ) → n < 10 → decimal n ≡ digit n ∷ []
+pub decimal-one : (n : ℕ) → n < 10 → decimal n ≡ digitCode n ∷ []
 unfolding decimal digits
 decimal-one n h = rw (lt-ltb n 10 h)
 
 -- from ten on: the last digit behind those of a tenth
-pub decimal-more : (n : ℕ) → 10 ≤ n → decimal n ≡ decimal (n / 10) ++ (digit (n % 10) ∷ [])
+pub decimal-more : (n : ℕ) → 10 ≤ n → decimal n ≡ decimal (n / 10) ++ (digitCode (n % 10) ∷ [])
 unfolding decimal digits
 decimal-more n h =
     rw (le-ltb n 10 h)
-    (ap (λ (l : List ℕ). l ++ (digit (n % 10) ∷ [])) (turns-enough n (suc (n / 10)) (n / 10) (omega arith) (omega arith)))
+    (ap (λ (l : List ℕ). l ++ (digitCode (n % 10) ∷ [])) (turns-enough n (suc (n / 10)) (n / 10) (omega arith) (omega arith)))
 
 -- ---- how many digits
 
@@ -47,7 +47,7 @@ pub length-one : (n : ℕ) → n < 10 → length (decimal n) ≡ 1
 length-one n h = ap length (decimal-one n h)
 
 pub length-more : (n : ℕ) → 10 ≤ n → length (decimal n) ≡ length (decimal (n / 10)) + 1
-length-more n h = ap length (decimal-more n h) ∙ length-append (decimal (n / 10)) (digit (n % 10) ∷ [])
+length-more n h = ap length (decimal-more n h) ∙ length-append (decimal (n / 10)) (digitCode (n % 10) ∷ [])
 
 -- a number below a power of ten has at most so many
 pub decimal-few : (k n : ℕ) → n < 10 ^ suc k → length (decimal n) ≤ suc k

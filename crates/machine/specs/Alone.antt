@@ -46,8 +46,9 @@ pub record EndedAlone (st : State) (t : Totals) : Type 0 where
 
 -- ---- a put may end alone
 
--- how a ring of n comes to that, by events in three parts: a request for full crosses the envelope; what is left of the
--- request keeps the full marker set when the receiver is gone; and then a put ends alone
+-- how a ring of n comes to that, by events in three parts: a request for full crosses the envelope; later the full marker
+-- is set with no receiver; and then a put ends alone. That the one comes of the other is seen in the lists, and not said
+-- here
 pub record EndsAlone (n home : ℕ) (crosses outlives ends : List Event) : Type 0 where
   pub on-ring : onRing n (crosses ++ (outlives ++ ends)) ≡ true
   pub crossing : Crossing (after (freshState n home) crosses)

@@ -125,7 +125,7 @@ ends o r =
 
 -- ---- put, by stage
 
--- stages 0, 1, 6: with the envelope forward, else pass requests
+-- stages 0, 1, 6, which wait for nothing: the envelope goes on if it is here, and requests are passed if it isn't
 unfoldable pub stroll : Reaction → Reaction
 stroll r = cond (r .process .have) (forward r) (pass r)
 
@@ -153,11 +153,11 @@ putAt stage r =
 
 -- ---- the events
 
--- code 0: stage 0 becomes 1, and the note is the message
+-- code 0: a put is wished at stage 0, with its message as the note
 unfoldable pub startPut : ℕ → Envelope → Process → Reaction
 startPut message e p = cond (eqb (p .stage) 0) (becomes Moved e (withStage 1 (withNote message p))) (idle e p)
 
--- code 1: stage 0 becomes 6
+-- code 1: a get is wished at stage 0
 unfoldable pub startGet : Envelope → Process → Reaction
 startGet e p = cond (eqb (p .stage) 0) (becomes Moved e (withStage 6 p)) (idle e p)
 
@@ -168,22 +168,22 @@ work e p =
     (cond (eqb (p .stage) 8) (becomes (Take (e .message)) (holding empty 0 e) (withStage 9 p))
     (idle e p))
 
--- code 3, get takes the local signal: 1 to 2, 4 to 5, 6 to 7, 9 to 10; news set
+-- code 3, the local signal: a stage at which main has told something becomes the next one, and put has news
 unfoldable pub signal : Envelope → Process → Reaction
 signal e p = cond (told (p .stage)) (becomes Moved e (withStage (p .stage + 1) (withNews true p))) (idle e p)
 
--- code 4, get takes the arriving envelope: arriving cleared, have and news set
+-- code 4, the envelope comes off the link: it is here now, and put has news
 unfoldable pub receive : Envelope → Process → Reaction
 receive e p = cond (p .arriving) (becomes Moved e (withArriving false (withHave true (withNews true p)))) (idle e p)
 
--- codes 5 and 6, get takes the link's request for s: it becomes asked by the right; news set
+-- codes 5 and 6, a request for s comes off the link: the right has asked for s now, and put has news
 unfoldable pub hear : Status → Envelope → Process → Reaction
 hear s e p =
     cond (for (p .link) s)
     (becomes Moved e (withLink (with (p .link) s false) (withAsked (with (p .asked) s true) (withNews true p))))
     (idle e p)
 
--- code 7, put: only with news, which it clears
+-- code 7, put: it uses its news up, and without any it does nothing
 unfoldable pub put : Envelope → Process → Reaction
 put e p = cond (p .news) (putAt (p .stage) (becomes Moved e (withNews false p))) (idle e p)
 

@@ -42,7 +42,7 @@ headerFits s = holds (headerRules s)
 
 -- ---- a record's bytes, each by its own range or zero
 
--- mark full stands only in stages 7 to 10, mark empty only in 2 to 5
+-- who is marked for full is in stages 7 to 10, who is marked for empty in 2 to 5
 abbrev pub markFits : Status → Process → Bool
 markFits s p = not (for (p .mark) s) || markable s (p .stage)
 

@@ -1,6 +1,6 @@
 -- The stages 0 to 10 of a process, and each set of stages that a rule names: document 01, "The image" and "The eight
--- events". 0 idle; 1 send told; 2 send waiting; 3 may fill; 4 filled told; 5 filled; 6 receive told; 7 receive waiting;
--- 8 may empty; 9 emptied told; 10 emptied. Assumes nothing.
+-- events". At 0 nothing is wished. A put goes from 1, where main has told its wish, to 2, where it waits, to 3, where main
+-- may fill, to 4, where main has told that it did, to 5; a get likewise from 6 to 10. Assumes nothing.
 use Prim.Native.Nat.{ℕ}
 use mathlib.Core.Bool.{Bool, cond, _&&_, _||_}
 use lib.Dec.{eqb, leb}

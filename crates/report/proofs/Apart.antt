@@ -15,10 +15,6 @@ use Rattle.machine.specs.Run.{countValues}
 use Rattle.machine.specs.Answers.{Answer, answer}
 use Rattle.machine.specs.Report.{refusalLine, textBy}
 use Rattle.machine.proofs.Refusals.{number-range}
-use Rattle.stopped.specs.declared.StoppedAnswer.{StoppedAnswer}
-use Rattle.stopped.specs.declared.StoppedAnswer.the-variants as stopped-answer
-use Rattle.stopped.specs.Stopped as stopped
-use Rattle.report.specs.Report.{saysYes}
 
 -- the number, and a value, of equal answers
 number-same : {a b : Answer} → a ≡ b → a .number ≡ b .number
@@ -54,10 +50,11 @@ same-counts c d e =
       records = value-same 7 e i;
     }
 
--- yes or no
-pub yes-same : (a : StoppedAnswer) (b : Bool) → stopped.told a ≡ answer Fine (bit b ∷ []) → saysYes a ≡ b
-yes-same stopped-answer.Yes true e = refl
-yes-same stopped-answer.Yes false e = absurd (omega (arith, value-same 0 e))
-yes-same stopped-answer.No true e = absurd (omega (arith, value-same 0 e))
-yes-same stopped-answer.No false e = refl
-yes-same (stopped-answer.Refused r) b e = absurd (omega (arith, number-same e, number-range r))
+-- yes or no, by its number
+pub yes-is : (b : Bool) → answer Fine (1 ∷ []) ≡ answer Fine (bit b ∷ []) → b ≡ true
+yes-is true e = refl
+yes-is false e = absurd (omega (arith, value-same 0 e))
+
+pub no-is : (b : Bool) → answer Fine (0 ∷ []) ≡ answer Fine (bit b ∷ []) → b ≡ false
+no-is true e = absurd (omega (arith, value-same 0 e))
+no-is false e = refl

@@ -15,13 +15,13 @@ use Rattle.machine.specs.Answers.{Answer, answer}
 use Rattle.machine.specs.Report.{reportText, reportAnswer, reportOutput}
 use Rattle.machine.proofs.Refusals.{unless-fine}
 use Rattle.span.proofs.Splices.{part-written}
-use Rattle.text.specs.Put.{Put}
+use Rattle.text.specs.Piece.{Piece}
 use Rattle.report.specs.declared.ReportAnswer.{ReportAnswer}
 use Rattle.report.specs.declared.ReportAnswer.the-variants as report-answer
 use Rattle.report.specs.Report.{told}
 use Rattle.report.proofs.Apart.{value-same, done-fine}
 
-module _ (input output page written : List ℕ) {end : ℕ} (put : Put page 0 (reportText input) written end) where
+module _ (input output page written : List ℕ) {end : ℕ} (put : Piece page 0 (reportText input) written end) where
   -- what the contract says of an answer and of the output
   abbrev Meets : Answer → List ℕ → Type 0
   Meets a after =

@@ -3,7 +3,7 @@
 -- start and the image after the run stands for the rules' own state. Assumes nothing.
 use Prim.Native.Nat.{ℕ, _+_, _*_, _≤_, _<_}
 use mathlib.Core.Path.{_≡_, refl, sym, ap, ap₂, _∙_}
-use mathlib.Core.Bool.{Bool}
+use mathlib.Core.Bool.{Bool, true, false}
 use mathlib.Core.List.{List, [], _∷_, _++_}
 use native.Mathlib.Omega.{arith}
 use lib.ListN.{length, getD, drop, List·getD-append}
@@ -29,9 +29,9 @@ use Rattle.run.specs.declared.RunAnswer.{RunAnswer}
 use Rattle.run.specs.declared.RunAnswer.the-variants as run-answer
 use Rattle.run.specs.Run as run
 use Rattle.stopped.specs.declared.StoppedAnswer.{StoppedAnswer}
+use Rattle.stopped.specs.declared.StoppedAnswer.the-variants as stopped-answer
 use Rattle.stopped.specs.Stopped as stopped
-use Rattle.report.specs.Report.{saysYes}
-use Rattle.report.proofs.Apart.{refused-line, done-fine, same-counts, yes-same}
+use Rattle.report.proofs.Apart.{refused-line, done-fine, same-counts, yes-is, no-is}
 
 -- ---- the lines of records at the start of a longer ledger
 
@@ -142,14 +142,27 @@ module _ (s tape ledger : List ℕ) (fine : imageVerdict s ≡ Fine) (few : leng
             let written : t ≡ next = left ∙ rw (tape-decides ∙ accepted) in
             ap stoppedAnswer written ∙ rw (on .fine, on .state)
 
+        abbrev at-rest : Bool
+        at-rest = rule.stopped (after (stateIn s) (runEvents tape))
+
+        module _ {t : List ℕ} (left : t ≡ runImage s tape ledger) (b : StoppedAnswer)
+            (told : stopped.told b ≡ stoppedAnswer t) where
+          -- the image is accepted, so the stopped call isn't refused
+          pub stopped-refused : {r : Refusal} → b ≡ stopped-answer.Refused r
+              → refusalLine r ≡ textBy tested (ranText (stateIn s) (runEvents tape))
+          stopped-refused {r} it =
+              refused-line Fine (bit at-rest ∷ []) (textBy tested (ranText (stateIn s) (runEvents tape))) r
+              (sym (ap stopped.told it) ∙ told ∙ state-after left)
+
+          pub stopped-yes : b ≡ stopped-answer.Yes → at-rest ≡ true
+          stopped-yes it = yes-is at-rest (sym (ap stopped.told it) ∙ told ∙ state-after left)
+
+          pub stopped-no : b ≡ stopped-answer.No → at-rest ≡ false
+          stopped-no it = no-is at-rest (sym (ap stopped.told it) ∙ told ∙ state-after left)
+
         -- lines, counts and whether it is stopped are the rules' text
-        pub run-done : {t l : List ℕ} → t ≡ runImage s tape ledger → l ≡ runLedger s tape ledger
-            → (b : StoppedAnswer) → stopped.told b ≡ stoppedAnswer t
-            → {yes : Bool} → yes ≡ saysYes b
+        pub run-done : {l : List ℕ} → l ≡ runLedger s tape ledger → {yes : Bool} → at-rest ≡ yes
             → recordLines l (c .records) ++ (countsLine c ++ lastLine yes)
             ≡ textBy tested (ranText (stateIn s) (runEvents tape))
         unfolding ranText
-        run-done left entered b told {yes} said =
-            let at-rest = rule.stopped (after (stateIn s) (runEvents tape)) in
-            let ends : yes ≡ at-rest = said ∙ yes-same b at-rest (told ∙ state-after left) in
-            rw (accepted, entries entered, same, ends)
+        run-done entered ends = rw (accepted, entries entered, same, ends)

@@ -1,11 +1,7 @@
--- What the report call's answer tells, in document 01's numbers and values, and what the stopped call's answer says.
--- Assumes nothing.
-use mathlib.Core.Bool.{Bool, true, false}
+-- What the report call's answer tells, in document 01's numbers and values. Assumes nothing.
 use mathlib.Core.List.{[], _∷_}
 use Rattle.machine.specs.declared.Verdict.the-variants as verdict
 use Rattle.machine.specs.Answers.{Answer, answer}
-use Rattle.stopped.specs.declared.StoppedAnswer.{StoppedAnswer}
-use Rattle.stopped.specs.declared.StoppedAnswer.the-variants as stopped-answer
 use Rattle.report.specs.declared.ReportAnswer.{ReportAnswer}
 use Rattle.report.specs.declared.ReportAnswer.the-variants.{Done, Refused}
 
@@ -13,9 +9,3 @@ use Rattle.report.specs.declared.ReportAnswer.the-variants.{Done, Refuse
 abbrev pub told : ReportAnswer → Answer
 told (Done filled) = answer verdict.Fine (filled ∷ [])
 told (Refused r) = answer (verdict.Refused r) []
-
--- whether the stopped call said yes
-abbrev pub saysYes : StoppedAnswer → Bool
-saysYes stopped-answer.Yes = true
-saysYes stopped-answer.No = false
-saysYes (stopped-answer.Refused r) = false

@@ -1,9 +1,7 @@
 // What ringrun writes, as a function of its whole input. Document 01, "The tape", its last paragraph.
 use image::FreshAnswer;
 use image::Ring;
-use lines::put_counts;
-use lines::put_last;
-use lines::put_records;
+use lines::put_ran;
 use lines::put_refusal;
 use machine::Refusal;
 use record::byte::wide64;
@@ -20,8 +18,8 @@ ghost use Rattle.machine.specs.Image.{sizeIn, stateIn};
 ghost use Rattle.machine.specs.Refusals.{codes, imageVerdict, tapeVerdict};
 ghost use Rattle.machine.specs.Answers.{runEvents};
 ghost use Rattle.machine.specs.Report.{ranText, textBy, reportText, reportAnswer, reportOutput};
-ghost use Rattle.text.specs.Put.{Put};
-ghost use Rattle.report.specs.Report.{saysYes, told};
+ghost use Rattle.text.specs.Piece.{Piece};
+ghost use Rattle.report.specs.Report.{told};
 
 // N, home and 64 blocks: ringrun accepts no more bytes than these.
 pub const MOST_INPUT: usize = 32770;
@@ -52,22 +50,13 @@ fn blocks_from(length: usize) -> usize
     if length < 2 { length } else { 2 }
 }
 
-// Whether the stopped call said yes.
-fn is_yes(answer: StoppedAnswer) -> bool
-    ensures { λ r. ⌜ r ≡ saysYes answer ⌝ }
-{
-    match answer {
-        StoppedAnswer::Yes => true,
-        StoppedAnswer::No => false,
-        StoppedAnswer::Refused(_) => false,
-    }
-}
-
-// The text of a tape of at most 64 blocks, performed from an image that is known to be sound: at the page's start.
+// The text of a tape of at most 64 blocks, performed from an image that is known to be sound: at the page's start. The
+// ledger has room for their 4,032 records of 12 bytes. A run is done or refused, and stopped is yes, no or refused, so the
+// innermost elses are never reached.
 fn run_text(image: &mut [u8], tape: &[u8], page: &mut [u8]) -> usize
     requires { ⌜ (imageVerdict (now image) ≡ verdict.Fine) × (length (now tape) ≤ 32768)
         × (125183 ≤ length (now page)) ⌝ }
-    ensures { λ r. ⌜ Put (now (page .entry)) 0
+    ensures { λ r. ⌜ Piece (now (page .entry)) 0
         (textBy (tapeVerdict codes (sizeIn (now (image .entry))) (now (tape .entry)))
         (ranText (stateIn (now (image .entry))) (runEvents (now (tape .entry)))))
         (now (page .exit)) r ⌝ }
@@ -80,15 +69,23 @@ fn run_text(image: &mut [u8], tape: &[u8], page: &mut [u8]) -> usize
         };
         return put_refusal(page, refusal);
     };
-    let lines = put_records(page, &ledger, counts.records as usize);
-    let last = put_counts(page, lines, counts);
-    put_last(page, last, is_yes(stopped(image)))
+    let at_rest = stopped(image);
+    let StoppedAnswer::Yes = at_rest else {
+        let StoppedAnswer::No = at_rest else {
+            let StoppedAnswer::Refused(refusal) = at_rest else {
+                return put_refusal(page, Refusal::Unsound);
+            };
+            return put_refusal(page, refusal);
+        };
+        return put_ran(page, &ledger, counts, false);
+    };
+    put_ran(page, &ledger, counts, true)
 }
 
 // The text of any input, at the page's start. A fresh ring is done or refused, so the inner else is never reached.
 fn whole_text(input: &[u8], page: &mut [u8]) -> usize
     requires { ⌜ 125183 ≤ length (now page) ⌝ }
-    ensures { λ r. ⌜ Put (now (page .entry)) 0 (reportText (now (input .entry))) (now (page .exit)) r ⌝ }
+    ensures { λ r. ⌜ Piece (now (page .entry)) 0 (reportText (now (input .entry))) (now (page .exit)) r ⌝ }
 {
     let mut image = [0; 528];
     let fresh = Ring::fresh(given(input, 0), given(input, 1), &mut image);

@@ -10,27 +10,27 @@ use Rattle.machine.specs.Text.{decimal}
 use Rattle.machine.proofs.Bytes.{length-splice, splice-next}
 use Rattle.machine.proofs.Text.{decimal-one, decimal-more, length-one, length-more}
 use Rattle.span.proofs.Laws.{splice-none, splice-one}
-use Rattle.text.specs.Put.{Put}
+use Rattle.text.specs.Piece.{Piece}
 
 -- the same piece, said otherwise
-pub put-is : {s t : List ℕ} {at end : ℕ} {a b : List ℕ} → a ≡ b → Put s at a t end → Put s at b t end
-put-is {s} {t} {at} {end} e put = subst (λ (piece : List ℕ). Put s at piece t end) e put
+pub piece-is : {s t : List ℕ} {at end : ℕ} {a b : List ℕ} → a ≡ b → Piece s at a t end → Piece s at b t end
+piece-is {s} {t} {at} {end} e put = subst (λ (piece : List ℕ). Piece s at piece t end) e put
 
 -- nothing
-pub put-none : (s : List ℕ) (at : ℕ) → at ≤ length s → Put s at [] s at
-put-none s at h = record { within = omega arith; written = splice-none s at; ends = omega arith }
+pub piece-none : (s : List ℕ) (at : ℕ) → at ≤ length s → Piece s at [] s at
+piece-none s at h = record { within = omega arith; written = splice-none s at; ends = omega arith }
 
-module _ {s t : List ℕ} {at end : ℕ} {a : List ℕ} (first : Put s at a t end) where
+module _ {s t : List ℕ} {at end : ℕ} {a : List ℕ} (first : Piece s at a t end) where
   -- the buffer keeps its length
-  pub put-length : length t ≡ length s
-  put-length = ap length (first .written) ∙ length-splice s at a (first .within)
+  pub piece-length : length t ≡ length s
+  piece-length = ap length (first .written) ∙ length-splice s at a (first .within)
 
   -- a piece, and then another
-  pub put-then : {u : List ℕ} {last : ℕ} {b : List ℕ} → Put t end b u last → Put s at (a ++ b) u last
-  put-then {u} {last} {b} second =
+  pub piece-then : {u : List ℕ} {last : ℕ} {b : List ℕ} → Piece t end b u last → Piece s at (a ++ b) u last
+  piece-then {u} {last} {b} second =
       let long = length-append a b in
       record {
-        within = omega (arith, put-length, second .within, first .ends);
+        within = omega (arith, piece-length, second .within, first .ends);
         written = go;
         ends = omega (arith, first .ends, second .ends);
       }
@@ -43,11 +43,11 @@ module _ {s t : List ℕ} {at end : ℕ} {a : List ℕ} (first : Put s at a t en
           ∙ splice-next s at a b (omega (arith, first .within))
 
   -- a piece, and then a byte
-  pub put-byte : (x : ℕ) → end < length t → Put s at (a ++ (x ∷ [])) (set t end x) (end + 1)
-  put-byte x h =
+  pub piece-byte : (x : ℕ) → end < length t → Piece s at (a ++ (x ∷ [])) (set t end x) (end + 1)
+  piece-byte x h =
       let long = length-append a (x ∷ []) in
       record {
-        within = omega (arith, put-length, first .ends);
+        within = omega (arith, piece-length, first .ends);
         written = go;
         ends = omega (arith, first .ends);
       }
@@ -56,27 +56,27 @@ module _ {s t : List ℕ} {at end : ℕ} {a : List ℕ} (first : Put s at a t en
       go =
           ap (λ (y : List ℕ). set y end x) (first .written)
           ∙ ap (λ (k : ℕ). set (splice s at a) k x) (first .ends)
-          ∙ splice-one s at a x (omega (arith, put-length, first .ends))
+          ∙ splice-one s at a x (omega (arith, piece-length, first .ends))
 
 -- ---- as the functions write them
 
 -- a text copied
-pub put-copied : (s t text : List ℕ) (at : ℕ) → at + length text ≤ length s
+pub piece-copied : (s t text : List ℕ) (at : ℕ) → at + length text ≤ length s
     → t ≡ splice s at (part text 0 (length text))
-    → Put s at text t (at + length text)
-put-copied s t text at h is =
+    → Piece s at text t (at + length text)
+piece-copied s t text at h is =
     record { within = h; written = is ∙ ap (splice s at) (take-length text); ends = omega arith }
 
 module _ (s : List ℕ) (at n : ℕ) (h : at + length (decimal n) ≤ length s) where
   -- a number below ten
-  pub put-digit : n < 10 → Put s at (decimal n) (set s at (48 + n)) (at + 1)
-  put-digit one =
+  pub piece-digit : n < 10 → Piece s at (decimal n) (set s at (48 + n)) (at + 1)
+  piece-digit one =
       rw (decimal-one n one)
-      (put-byte (put-none s at (omega arith)) (48 + n) (omega (arith, length-one n one)))
+      (piece-byte (piece-none s at (omega arith)) (48 + n) (omega (arith, length-one n one)))
 
   -- the last digit, behind those of a tenth
-  pub put-last : {t : List ℕ} {end : ℕ} → 10 ≤ n → Put s at (decimal (n / 10)) t end
-      → Put s at (decimal n) (set t end (48 + n % 10)) (end + 1)
-  put-last ten tenth =
+  pub piece-last : {t : List ℕ} {end : ℕ} → 10 ≤ n → Piece s at (decimal (n / 10)) t end
+      → Piece s at (decimal n) (set t end (48 + n % 10)) (end + 1)
+  piece-last ten tenth =
       rw (decimal-more n ten)
-      (put-byte tenth (48 + n % 10) (omega (arith, length-more n ten, put-length tenth, tenth .ends)))
+      (piece-byte tenth (48 + n % 10) (omega (arith, length-more n ten, piece-length tenth, tenth .ends)))

@@ -6,12 +6,12 @@ ghost use mathlib.Core.List.{[], _∷_, _++_};
 ghost use Prim.Native.Nat.{_+_, _≤_};
 ghost use lib.ListN.{length};
 ghost use Rattle.machine.specs.Text.{decimal};
-ghost use Rattle.text.specs.Put.{Put};
+ghost use Rattle.text.specs.Piece.{Piece};
 
 // Internal: a number in decimal, without leading zeros: its last digit goes behind those of a tenth of it.
 pub fn put_decimal(out: &mut [u8], at: usize, n: u64) -> usize
     requires { ⌜ at + length (decimal n) ≤ length (now out) ⌝ }
-    ensures { λ r. ⌜ Put (now (out .entry)) at (decimal n) (now (out .exit)) r ⌝ }
+    ensures { λ r. ⌜ Piece (now (out .entry)) at (decimal n) (now (out .exit)) r ⌝ }
 {
     if n < 10 {
         out[at] = (48 + n) as u8;
@@ -25,7 +25,7 @@ pub fn put_decimal(out: &mut [u8], at: usize, n: u64) -> usize
 // Internal: a text.
 pub fn put_text(out: &mut [u8], at: usize, text: &[u8]) -> usize
     requires { ⌜ at + length (now text) ≤ length (now out) ⌝ }
-    ensures { λ r. ⌜ Put (now (out .entry)) at (now (text .entry)) (now (out .exit)) r ⌝ }
+    ensures { λ r. ⌜ Piece (now (out .entry)) at (now (text .entry)) (now (out .exit)) r ⌝ }
 {
     copy(text, 0, out, at, text.len());
     at + text.len()
@@ -34,7 +34,7 @@ pub fn put_text(out: &mut [u8], at: usize, text: &[u8]) -> usize
 // Internal: a number as a field, and the byte behind it.
 pub fn decimal_field(out: &mut [u8], at: usize, n: u64, behind: u8) -> usize
     requires { ⌜ at + (length (decimal n) + 1) ≤ length (now out) ⌝ }
-    ensures put { λ r. ⌜ Put (now (out .entry)) at (decimal n ++ (behind ∷ [])) (now (out .exit)) r ⌝ }
+    ensures piece { λ r. ⌜ Piece (now (out .entry)) at (decimal n ++ (behind ∷ [])) (now (out .exit)) r ⌝ }
     ensures end { λ r. ⌜ r ≡ at + (length (decimal n) + 1) ⌝ }
 {
     let end = put_decimal(out, at, n);
@@ -45,7 +45,7 @@ pub fn decimal_field(out: &mut [u8], at: usize, n: u64, behind: u8) -> usize
 // Internal: a text as a field, and the byte behind it.
 pub fn text_field(out: &mut [u8], at: usize, text: &[u8], behind: u8) -> usize
     requires { ⌜ at + (length (now text) + 1) ≤ length (now out) ⌝ }
-    ensures put { λ r. ⌜ Put (now (out .entry)) at (now (text .entry) ++ (behind ∷ [])) (now (out .exit)) r ⌝ }
+    ensures piece { λ r. ⌜ Piece (now (out .entry)) at (now (text .entry) ++ (behind ∷ [])) (now (out .exit)) r ⌝ }
     ensures end { λ r. ⌜ r ≡ at + (length (now (text .entry)) + 1) ⌝ }
 {
     let end = put_text(out, at, text);

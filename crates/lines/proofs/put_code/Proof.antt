@@ -1,7 +1,7 @@
 -- Each code's word with a space behind it; any other code has none. Assumes nothing.
 use native.Mathlib.Omega.{arith}
 use lib.ListN.{length-set}
-use Rattle.text.proofs.Laws.{put-none, put-byte}
+use Rattle.text.proofs.Laws.{piece-none, piece-byte}
 use Rattle.lines.proofs.Lines.{word-fill, word-take, word-sent, word-got, word-none, coded}
 use Rattle.lines.proofs.put_code.Statement.{statement}
 use Rattle.lines.proofs.put_code.Tie as tie
@@ -73,7 +73,7 @@ returns-5 : tie.Need-returns-5
 returns-5 c =
     let a = c .before .before .args in
     let none = word-none (a .code) (λ is. omega arith) (λ is. omega arith) (λ is. omega arith) (λ is. omega arith) in
-    (coded (a .code) none (put-byte (put-none (a .page .now) (a .at) (omega arith)) 32 (omega arith)), omega arith)
+    (coded (a .code) none (piece-byte (piece-none (a .page .now) (a .at) (omega arith)) 32 (omega arith)), omega arith)
 
 pub put-code-spec : {M : Type 1} → statement M
 put-code-spec =

@@ -1,7 +1,7 @@
 -- The name and a space, then the count, which has at most 20 digits, and the byte behind it. Assumes nothing.
 use native.Mathlib.Omega.{arith}
 use Rattle.machine.proofs.Text.{decimal-64}
-use Rattle.text.proofs.Laws.{put-then}
+use Rattle.text.proofs.Laws.{piece-then}
 use Rattle.lines.proofs.put_count.Statement.{statement}
 use Rattle.lines.proofs.put_count.Tie as tie
 
@@ -16,7 +16,7 @@ same-length c = omega arith
 
 returns : tie.Need-returns
 returns c = (
-  put-then (c .before .before .before .before .before .before .text-field .ensures .0) (c .before .before .decimal-field .ensures .0),
+  piece-then (c .before .before .before .before .before .before .text-field .ensures .0) (c .before .before .decimal-field .ensures .0),
   omega (arith, decimal-64 (c .before .before .before .before .before .before .before .before .before .before .args .count) (omega arith)),
 )
 

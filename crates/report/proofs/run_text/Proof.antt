@@ -1,12 +1,13 @@
--- A refused run has the tape's own refusal; after one that is done, lines, counts and the last line are the rules' text.
--- Assumes nothing.
+-- A refused run has the tape's own refusal; after one that is done, lines, counts and the last line are the rules' text,
+-- and stopped isn't refused. Assumes nothing.
 use Prim.Native.Nat.{ℕ, _≤_}
 use mathlib.Core.Path.{_∙_}
 use mathlib.Core.List.{List}
+use mathlib.Core.Logic.{⊎-elim}
 use native.Mathlib.Omega.{arith}
 use lib.ListN.{length, replicate, length-replicate}
-use Rattle.text.proofs.Laws.{put-is, put-then}
-use Rattle.report.proofs.Ran.{run-refused, records-few-told, run-done}
+use Rattle.text.proofs.Laws.{piece-is}
+use Rattle.report.proofs.Ran.{run-refused, records-few-told, stopped-refused, stopped-yes, stopped-no, run-done}
 use Rattle.report.proofs.run_text.Statement.{statement}
 use Rattle.report.proofs.run_text.Tie as tie
 
@@ -59,52 +60,28 @@ same-length-4 c = omega arith
 returns-2 : tie.Need-returns-2
 returns-2 c =
     let g = c .before .before .before .before .before .before .before .before .before .before .before .before .before in
-    let a = g .before .before .before .before .before .before .args in
-    let image = a .image .now in
-    let tape = a .tape .now in
-    let pre = g .before .before .before .before .before .before .pre in
-    let is = c .before .before .before .before .before .before .before .before .ran2 .given .1 ∙ c .before .before .before .before .before .ran3 .given .1 in
-    put-is (run-refused image tape blank (pre .0) (pre .1) blank-room _ (g .run .ensures .0) is)
-    (c .before .before .put-refusal2 .ensures)
-
-slice-aggregate-put-records : tie.Need-slice-aggregate-put-records
-slice-aggregate-put-records c = omega arith
-
-put-records-requires : tie.Need-put-records-requires
-put-records-requires c κs =
-    let g = c .before .before .before .before .before .before .before .before in
-    let a = g .before .before .before .before .before .before .args in
-    let image = a .image .now in
-    let tape = a .tape .now in
-    let pre = g .before .before .before .before .before .before .pre in
-    let few = records-few-told image tape blank (pre .0) (pre .1) blank-room _ (g .run .ensures .0) (c .before .before .before .ran .given .1) in
-    (omega (arith, few), omega (arith, few, blank-room, g .run .kept))
-
-put-counts-requires : tie.Need-put-counts-requires
-put-counts-requires c κs =
-    let g = c .before .before .before .before .before .before .before .before .before .before .before .before in
-    let a = g .before .before .before .before .before .before .args in
-    let image = a .image .now in
-    let tape = a .tape .now in
-    let pre = g .before .before .before .before .before .before .pre in
-    let few = records-few-told image tape blank (pre .0) (pre .1) blank-room _ (g .run .ensures .0) (c .before .before .before .before .before .before .before .ran .given .1) in
-    omega (arith, few, c .before .before .before .put-records .ensures .1)
+    let start = g .before .before .before .before .before .before in
+    let image = start .args .image .now in
+    let tape = start .args .tape .now in
+    let fine = start .pre .0 in
+    let few = start .pre .1 in
+    let refused = c .before .before .before .before .before .before .before .before .ran2 .given .1 ∙ c .before .before .before .before .before .ran3 .given .1 in
+    piece-is (run-refused image tape blank fine few blank-room _ (g .run .ensures .0) refused) (c .before .before .put-refusal2 .ensures)
 
 stopped-requires : tie.Need-stopped-requires
 stopped-requires c κs = tt
 
-is-yes-requires : tie.Need-is-yes-requires
-is-yes-requires c κs = tt
+enum-told-2 : tie.Need-enum-told-2
+enum-told-2 c = omega arith
 
-put-last-requires : tie.Need-put-last-requires
-put-last-requires c κs =
-    let g = c .before .before .before .before .before .before .before .before .before .before .before .before .before .before .before .before .before .before .before in
-    let a = g .before .before .before .before .before .before .args in
-    let image = a .image .now in
-    let tape = a .tape .now in
-    let pre = g .before .before .before .before .before .before .pre in
-    let few = records-few-told image tape blank (pre .0) (pre .1) blank-room _ (g .run .ensures .0) (c .before .before .before .before .before .before .before .before .before .before .before .before .before .before .ran .given .1) in
-    omega (arith, few, c .before .before .before .before .before .before .put-counts .ensures .1, c .before .before .before .before .before .before .before .before .before .before .put-records .ensures .1)
+enum-told-3 : tie.Need-enum-told-3
+enum-told-3 c = omega arith
+
+enum-known-at-rest : tie.Need-enum-known-at-rest
+enum-known-at-rest c = omega arith
+
+put-refusal-requires-3 : tie.Need-put-refusal-requires-3
+put-refusal-requires-3 c κs = omega arith
 
 same-length-5 : tie.Need-same-length-5
 same-length-5 c = omega arith
@@ -114,18 +91,113 @@ same-length-6 c = omega arith
 
 returns-3 : tie.Need-returns-3
 returns-3 c =
-    let g = c .before .before .before .before .before .before .before .before .before .before .before .before .before .before .before .before .before .before .before .before .before .before in
-    let a = g .before .before .before .before .before .before .args in
-    let image = a .image .now in
-    let tape = a .tape .now in
-    let pre = g .before .before .before .before .before .before .pre in
-    let text = run-done image tape blank (pre .0) (pre .1) blank-room _ (g .run .ensures .0) (c .before .before .before .before .before .before .before .before .before .before .before .before .before .before .before .before .before .ran .given .1)
+    let m = c .before .before .before .before in
+    absurd
+    (⊎-elim (λ p. ⊎-elim (λ q. omega arith) (λ q. omega arith) (m .before .before .match3 .keys2))
+    (λ p. ⊎-elim (λ q. omega arith) (λ q. omega arith) (m .before .match4 .keys2)) (m .match5 .keys2))
+
+put-refusal-requires-4 : tie.Need-put-refusal-requires-4
+put-refusal-requires-4 c κs = omega arith
+
+same-length-7 : tie.Need-same-length-7
+same-length-7 c = omega arith
+
+same-length-8 : tie.Need-same-length-8
+same-length-8 c = omega arith
+
+returns-4 : tie.Need-returns-4
+returns-4 c =
+    let g = c .before .before .before .before .before .before .before .before .before .before .before .before .before .before .before .before .before in
+    let start = g .before .before .before .before .before .before in
+    let image = start .args .image .now in
+    let tape = start .args .tape .now in
+    let fine = start .pre .0 in
+    let few = start .pre .1 in
+    let is-done = c .before .before .before .before .before .before .before .before .before .before .before .before .ran .given .1 in
+    let rest = c .before .before .before .before .before .before .before .before .before .stopped in
+    piece-is
+    (stopped-refused image tape blank fine few blank-room _ (g .run .ensures .0) is-done
     (λ k. omega (arith, g .before .before .before .before .before .slice-known .given k)) (λ k. omega (arith, g .before .before .before .before .shared-slice-known .given k))
-    (g .run .ensures .1 .0) (g .run .ensures .1 .1) (c .before .before .before .before .stopped .result)
-    (c .before .before .before .before .stopped .ensures) (c .before .before .before .is-yes .ensures) in
-    put-is text
-    (put-then (c .before .before .before .before .before .before .before .before .before .before .before .before .before .put-records .ensures .0)
-    (put-then (c .before .before .before .before .before .before .before .before .before .put-counts .ensures .0) (c .before .before .put-last .ensures)))
+    (g .run .ensures .1 .0) (rest .result) (rest .ensures) (c .before .before .before .before .before .at-rest .given .1))
+    (c .before .before .put-refusal4 .ensures)
+
+slice-aggregate-put-ran : tie.Need-slice-aggregate-put-ran
+slice-aggregate-put-ran c = omega arith
+
+put-ran-requires : tie.Need-put-ran-requires
+put-ran-requires c κs =
+    let g = c .before .before .before .before .before .before .before .before .before .before .before .before .before in
+    let start = g .before .before .before .before .before .before in
+    let image = start .args .image .now in
+    let tape = start .args .tape .now in
+    let fine = start .pre .0 in
+    let few = start .pre .1 in
+    let most = records-few-told image tape blank fine few blank-room _ (g .run .ensures .0) (c .before .before .before .before .before .before .before .before .ran .given .1) in
+    (omega (arith, most, start .pre .2), omega (arith, most, blank-room, g .run .kept))
+
+same-length-9 : tie.Need-same-length-9
+same-length-9 c = omega arith
+
+same-length-10 : tie.Need-same-length-10
+same-length-10 c = omega arith
+
+returns-5 : tie.Need-returns-5
+returns-5 c =
+    let g = c .before .before .before .before .before .before .before .before .before .before .before .before .before .before .before .before in
+    let start = g .before .before .before .before .before .before in
+    let image = start .args .image .now in
+    let tape = start .args .tape .now in
+    let fine = start .pre .0 in
+    let few = start .pre .1 in
+    let is-done = c .before .before .before .before .before .before .before .before .before .before .before .ran .given .1 in
+    let rest = c .before .before .before .before .before .before .before .before .stopped in
+    let ends = stopped-no image tape blank fine few blank-room _ (g .run .ensures .0) is-done
+    (λ k. omega (arith, g .before .before .before .before .before .slice-known .given k)) (λ k. omega (arith, g .before .before .before .before .shared-slice-known .given k))
+    (g .run .ensures .1 .0) (rest .result) (rest .ensures) (c .before .before .before .before .before .enum-told3 .given .1) in
+    piece-is
+    (run-done image tape blank fine few blank-room _ (g .run .ensures .0) is-done
+    (λ k. omega (arith, g .before .before .before .before .before .slice-known .given k)) (λ k. omega (arith, g .before .before .before .before .shared-slice-known .given k))
+    (g .run .ensures .1 .1) ends)
+    (c .before .before .put-ran .ensures)
+
+slice-aggregate-put-ran-2 : tie.Need-slice-aggregate-put-ran-2
+slice-aggregate-put-ran-2 c = omega arith
+
+put-ran-requires-2 : tie.Need-put-ran-requires-2
+put-ran-requires-2 c κs =
+    let g = c .before .before .before .before .before .before .before .before .before .before .before .before in
+    let start = g .before .before .before .before .before .before in
+    let image = start .args .image .now in
+    let tape = start .args .tape .now in
+    let fine = start .pre .0 in
+    let few = start .pre .1 in
+    let most = records-few-told image tape blank fine few blank-room _ (g .run .ensures .0) (c .before .before .before .before .before .before .before .ran .given .1) in
+    (omega (arith, most, start .pre .2), omega (arith, most, blank-room, g .run .kept))
+
+same-length-11 : tie.Need-same-length-11
+same-length-11 c = omega arith
+
+same-length-12 : tie.Need-same-length-12
+same-length-12 c = omega arith
+
+returns-6 : tie.Need-returns-6
+returns-6 c =
+    let g = c .before .before .before .before .before .before .before .before .before .before .before .before .before .before .before in
+    let start = g .before .before .before .before .before .before in
+    let image = start .args .image .now in
+    let tape = start .args .tape .now in
+    let fine = start .pre .0 in
+    let few = start .pre .1 in
+    let is-done = c .before .before .before .before .before .before .before .before .before .before .ran .given .1 in
+    let rest = c .before .before .before .before .before .before .before .stopped in
+    let ends = stopped-yes image tape blank fine few blank-room _ (g .run .ensures .0) is-done
+    (λ k. omega (arith, g .before .before .before .before .before .slice-known .given k)) (λ k. omega (arith, g .before .before .before .before .shared-slice-known .given k))
+    (g .run .ensures .1 .0) (rest .result) (rest .ensures) (c .before .before .before .before .before .enum-told2 .given .1) in
+    piece-is
+    (run-done image tape blank fine few blank-room _ (g .run .ensures .0) is-done
+    (λ k. omega (arith, g .before .before .before .before .before .slice-known .given k)) (λ k. omega (arith, g .before .before .before .before .shared-slice-known .given k))
+    (g .run .ensures .1 .1) ends)
+    (c .before .before .put-ran2 .ensures)
 
 pub run-text-spec : {M : Type 1} → statement M
 run-text-spec =
@@ -145,12 +217,25 @@ run-text-spec =
     same-length-3
     same-length-4
     returns-2
-    slice-aggregate-put-records
-    put-records-requires
-    put-counts-requires
     stopped-requires
-    is-yes-requires
-    put-last-requires
+    enum-told-2
+    enum-told-3
+    enum-known-at-rest
+    put-refusal-requires-3
     same-length-5
     same-length-6
-    returns-3)
+    returns-3
+    put-refusal-requires-4
+    same-length-7
+    same-length-8
+    returns-4
+    slice-aggregate-put-ran
+    put-ran-requires
+    same-length-9
+    same-length-10
+    returns-5
+    slice-aggregate-put-ran-2
+    put-ran-requires-2
+    same-length-11
+    same-length-12
+    returns-6)

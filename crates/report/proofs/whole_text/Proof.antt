@@ -4,7 +4,7 @@ use mathlib.Core.Path.{_∙_}
 use mathlib.Core.List.{List}
 use native.Mathlib.Omega.{arith}
 use lib.ListN.{length, replicate, length-replicate}
-use Rattle.text.proofs.Laws.{put-is}
+use Rattle.text.proofs.Laws.{piece-is}
 use Rattle.report.proofs.Whole.{blocks-given, blocks-few, fresh-refused, length-refused, image-accepted, run-whole}
 use Rattle.report.proofs.whole_text.Statement.{statement}
 use Rattle.report.proofs.whole_text.Tie as tie
@@ -62,7 +62,7 @@ returns-2 c =
     let n = g .before .before .before .given .ensures .0 in
     let home = g .before .before .given2 .ensures .0 in
     let refused = c .before .before .before .before .before .before .before .before .fresh2 .given .1 ∙ c .before .before .before .before .before .fresh3 .given .1 in
-    put-is (fresh-refused input blank blank-room n home _ (g .fresh .ensures .0) refused)
+    piece-is (fresh-refused input blank blank-room n home _ (g .fresh .ensures .0) refused)
     (c .before .before .put-refusal2 .ensures)
 
 put-refusal-requires-3 : tie.Need-put-refusal-requires-3
@@ -78,7 +78,7 @@ returns-3 c =
     let n = g .before .before .before .given .ensures .0 in
     let home = g .before .before .given2 .ensures .0 in
     let done = c .before .before .before .before .before .enum-told .given .1 in
-    put-is (length-refused input blank blank-room n home _ (g .fresh .ensures .0) done (omega arith))
+    piece-is (length-refused input blank blank-room n home _ (g .fresh .ensures .0) done (omega arith))
     (c .before .before .put-refusal3 .ensures)
 
 blocks-from-requires : tie.Need-blocks-from-requires
@@ -119,7 +119,7 @@ returns-4 c =
     let home = g .before .before .given2 .ensures .0 in
     let done = c .before .before .before .before .before .before .before .before .before .enum-told .given .1 in
     let tape = blocks-given input (c .before .before .before .before .before .before .before .blocks-from .ensures) in
-    put-is
+    piece-is
     (run-whole input blank blank-room n home _ (g .fresh .ensures .0) done (g .fresh .ensures .1) (omega arith) tape)
     (c .before .before .before .run-text .ensures)
 

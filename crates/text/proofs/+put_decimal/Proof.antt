@@ -4,7 +4,7 @@ use mathlib.Core.Path.{_∙_}
 use native.Mathlib.Omega.{arith}
 use lib.ListN.{length-set}
 use Rattle.machine.proofs.Text.{length-one, length-more}
-use Rattle.text.proofs.Laws.{put-digit, put-last}
+use Rattle.text.proofs.Laws.{piece-digit, piece-last}
 use Prim.Native.Nat.{ℕ, _+_, _<_}
 use borrow.Fn.Kinds.{In}
 use borrow.Fn.PlainCycle.{Measures, is, falls, and}
@@ -63,7 +63,7 @@ put-decimal-returns : (t : ℕ) → put-decimal-lts.Need-returns (
 ) (put-decimal-at t) put-decimal.Post
 put-decimal-returns t c =
     let a = c .before .before .args in
-    put-digit (a .out .now) (a .at) (a .n) (omega arith) (omega arith)
+    piece-digit (a .out .now) (a .at) (a .n) (omega arith) (omega arith)
 
 put-decimal-put-decimal-requires : (t : ℕ) → put-decimal-lts.Need-put-decimal-requires (
   put-decimal-below t,
@@ -113,7 +113,7 @@ put-decimal-returns-2 : (t : ℕ) → put-decimal-lts.Need-returns-2 (
 ) (put-decimal-at t) put-decimal.Post
 put-decimal-returns-2 t c =
     let a = c .before .before .before .before .before .before .args in
-    put-last (a .out .now) (a .at) (a .n) (omega arith) (omega arith) (c .before .before .put-decimal .ensures)
+    piece-last (a .out .now) (a .at) (a .n) (omega arith) (omega arith) (c .before .before .put-decimal .ensures)
 
 pub +put-decimal-spec : {M : Type 1} → statement M
 +put-decimal-spec = close μ-put-decimal λ t. put-decimal-lts.spec (

@@ -2,7 +2,7 @@
 use mathlib.Core.Path.{_∙_}
 use native.Mathlib.Omega.{arith}
 use lib.ListN.{length-set}
-use Rattle.text.proofs.Laws.{put-byte}
+use Rattle.text.proofs.Laws.{piece-byte}
 use Rattle.text.proofs.decimal_field.Statement.{statement}
 use Rattle.text.proofs.decimal_field.Tie as tie
 
@@ -21,7 +21,7 @@ same-length c =
     length-set (p .last .0) (p .result) _ ∙ p .kept .0
 
 returns : tie.Need-returns
-returns c = (put-byte (c .before .before .put-decimal .ensures) _ (omega arith), omega arith)
+returns c = (piece-byte (c .before .before .put-decimal .ensures) _ (omega arith), omega arith)
 
 pub decimal-field-spec : {M : Type 1} → statement M
 decimal-field-spec = tie.close (tie.spec put-decimal-requires slice-write-out add-result same-length returns)

@@ -1,6 +1,6 @@
 -- The whole text is copied. Assumes nothing.
 use native.Mathlib.Omega.{arith}
-use Rattle.text.proofs.Laws.{put-copied}
+use Rattle.text.proofs.Laws.{piece-copied}
 use Rattle.text.proofs.put_text.Statement.{statement}
 use Rattle.text.proofs.put_text.Tie as tie
 
@@ -16,7 +16,7 @@ same-length c = omega arith
 returns : tie.Need-returns
 returns c =
     let a = c .before .before .before .before .before .before .args in
-    put-copied (a .out .now) _ (a .text .now) (a .at) (omega arith) (c .before .before .copy .ensures)
+    piece-copied (a .out .now) _ (a .text .now) (a .at) (omega arith) (c .before .before .copy .ensures)
 
 pub put-text-spec : {M : Type 1} → statement M
 put-text-spec = tie.close (tie.spec copy-requires add-result same-length returns)

@@ -2,7 +2,7 @@
 use mathlib.Core.Path.{_∙_}
 use native.Mathlib.Omega.{arith}
 use lib.ListN.{length-set}
-use Rattle.text.proofs.Laws.{put-byte}
+use Rattle.text.proofs.Laws.{piece-byte}
 use Rattle.text.proofs.text_field.Statement.{statement}
 use Rattle.text.proofs.text_field.Tie as tie
 
@@ -21,7 +21,7 @@ same-length c =
     length-set (p .last .0) (p .result) _ ∙ p .kept .0
 
 returns : tie.Need-returns
-returns c = (put-byte (c .before .before .put-text .ensures) _ (omega arith), omega arith)
+returns c = (piece-byte (c .before .before .put-text .ensures) _ (omega arith), omega arith)
 
 pub text-field-spec : {M : Type 1} → statement M
 text-field-spec = tie.close (tie.spec put-text-requires slice-write-out add-result same-length returns)

@@ -3,15 +3,15 @@ use Prim.Native.Nat.{_≤_, _*_, _-_}
 use mathlib.Core.Path.{_≡_, sym}
 use native.Mathlib.Omega.{arith}
 use Rattle.machine.specs.Report.{recordLines}
-use Rattle.text.specs.Put.{Put}
-use Rattle.text.proofs.Laws.{put-length}
+use Rattle.text.specs.Piece.{Piece}
+use Rattle.text.proofs.Laws.{piece-length}
 use Rattle.lines.proofs.Lines.{records-none, records-more}
-use Rattle.lines.proofs.put_records.Statement.{statement}
-use Rattle.lines.proofs.put_records.Tie as tie
+use Rattle.lines.proofs.put_lines.Statement.{statement}
+use Rattle.lines.proofs.put_lines.Tie as tie
 
 abbrev Inv-loop : tie.InvT-loop
 Inv-loop page₀ ledger records at₀ k₀ page at k =
-    (k ≤ records) × (at ≤ 31 * k) × Put page₀ 0 (recordLines ledger k) page at
+    (k ≤ records) × (at ≤ 31 * k) × Piece page₀ 0 (recordLines ledger k) page at
 
 abbrev μ-loop : tie.MeasureT-loop
 μ-loop page₀ ledger records at₀ k₀ page at k = records - k
@@ -21,10 +21,10 @@ loop-holds c =
     let a = c .before .before .args in
     (omega arith, omega arith, records-none (a .page .now) (a .ledger .now))
 
-put-record-requires : tie.Need-put-record-requires Inv-loop μ-loop
-put-record-requires c κs =
+put-line-requires : tie.Need-put-line-requires Inv-loop μ-loop
+put-line-requires c κs =
     let i = c .before .before .loop .inv in
-    (omega (arith, put-length (i .2)), omega arith)
+    (omega (arith, piece-length (i .2)), omega arith)
 
 add-k : tie.Need-add-k Inv-loop μ-loop
 add-k c = omega arith
@@ -37,11 +37,11 @@ loop-again c =
     let l = c .before .before .before .before .before in (
       omega arith,
       omega arith,
-      records-more (l .before .before .before .args .ledger .now) (l .loop .k) (l .loop .inv .2) (c .before .before .put-record .ensures .0),
+      records-more (l .before .before .before .args .ledger .now) (l .loop .k) (l .loop .inv .2) (c .before .before .put-line .ensures .0),
     )
 
 same-length : tie.Need-same-length Inv-loop μ-loop
-same-length c = put-length (c .before .loop .inv .2)
+same-length c = piece-length (c .before .loop .inv .2)
 
 returns : tie.Need-returns Inv-loop μ-loop
 returns c =
@@ -49,14 +49,14 @@ returns c =
     let all : l .loop .k ≡ l .before .before .before .args .records = omega arith in
     (rw (sym all) (l .loop .inv .2), omega arith)
 
-pub put-records-spec : {M : Type 1} → statement M
-put-records-spec =
+pub put-lines-spec : {M : Type 1} → statement M
+put-lines-spec =
     tie.close
     (tie.spec
     Inv-loop
     μ-loop
     loop-holds
-    put-record-requires
+    put-line-requires
     add-k
     loop-less
     loop-again

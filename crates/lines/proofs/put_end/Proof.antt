@@ -2,8 +2,8 @@
 use native.Mathlib.Omega.{arith}
 use Rattle.machine.specs.Text.{text}
 use Rattle.lines.proofs.Lines.{last-stopped, last-moving}
-use Rattle.lines.proofs.put_last.Statement.{statement}
-use Rattle.lines.proofs.put_last.Tie as tie
+use Rattle.lines.proofs.put_end.Statement.{statement}
+use Rattle.lines.proofs.put_end.Tie as tie
 
 slice-aggregate-text-field : tie.Need-slice-aggregate-text-field
 slice-aggregate-text-field c = omega arith
@@ -31,8 +31,8 @@ returns-2 : tie.Need-returns-2
 unfolding text
 returns-2 c = last-moving (c .before .before .before .before .before .if1 .left) (c .before .before .text-field2 .ensures .0)
 
-pub put-last-spec : {M : Type 1} → statement M
-put-last-spec =
+pub put-end-spec : {M : Type 1} → statement M
+put-end-spec =
     tie.close
     (tie.spec
     slice-aggregate-text-field

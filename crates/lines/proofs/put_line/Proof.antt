@@ -3,8 +3,8 @@ use mathlib.Core.Path.{refl}
 use native.Mathlib.Omega.{arith}
 use Rattle.machine.proofs.Text.{decimal-8, decimal-32}
 use Rattle.lines.proofs.Lines.{record-lined}
-use Rattle.lines.proofs.put_record.Statement.{statement}
-use Rattle.lines.proofs.put_record.Tie as tie
+use Rattle.lines.proofs.put_line.Statement.{statement}
+use Rattle.lines.proofs.put_line.Tie as tie
 
 mul-from : tie.Need-mul-from
 mul-from c = omega arith
@@ -97,8 +97,8 @@ returns c =
       ),
     )
 
-pub put-record-spec : {M : Type 1} → statement M
-put-record-spec =
+pub put-line-spec : {M : Type 1} → statement M
+put-line-spec =
     tie.close
     (tie.spec
     mul-from
