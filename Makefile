@@ -32,6 +32,7 @@ test:
 	echo "$$closing"
 
 run:
+	@test -r '$(IN)' || { echo 'make run: cannot read $(IN)' >&2; exit 2; }
 	@rt check ringrun >&2
 	@target/bin/ringrun <'$(IN)'
 

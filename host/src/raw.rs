@@ -1,9 +1,10 @@
 //! The three functions of the proved library, as they are: numbers and byte slices.
 //!
-//! Each returns 0 or the refusal's number. The result slice, where it has at least 80 bytes, takes the rest as 64-bit
-//! little-endian words from its start, zero up to byte 80: a step's outcome and message, a run's eight counts, 0 or 1
-//! for stopped, or a refusal's place. A shorter one stays untouched, and the call is then 10 if nothing else refuses
-//! it. [`crate::step`], [`crate::run`] and [`crate::stopped`] say the same with types.
+//! What is returned is the refusal's number, and 0 if there is none. A result slice of at least 80 bytes gets ten 64-bit
+//! little-endian words at its start: outcome and message of a step, the eight counts of a run, 1 or 0 for a ring that is
+//! stopped or isn't, or the place of a refusal, and 0 in the words behind. In a shorter one nothing is written, and a call
+//! that is not refused otherwise is then refused with 10. [`crate::step`], [`crate::run`] and [`crate::stopped`] say the
+//! same with types.
 //!
 //! This is the one module of the package with `unsafe`. It is sound because a slice passes as its own pointer and
 //! length, because the borrows keep the slices of a call apart and alive until it returns, and because the functions,
