@@ -1,11 +1,10 @@
 -- Fields one after the other are a line. Assumes nothing.
-use Prim.Native.Nat.{ℕ, _+_, _*_}
+use Prim.Native.Nat.{ℕ, _+_, _*_, _^_, _≤_, _<_}
 use mathlib.Core.Path.{_≡_}
-use mathlib.Core.Bool.{Bool, true, false}
 use mathlib.Core.List.{List, [], _∷_, _++_, append-assoc}
 use native.Mathlib.Nat.{zero-add}
 use native.Mathlib.Omega.{arith}
-use lib.ListN.{getD}
+use lib.ListN.{length, getD}
 use borrow.Author.Tests.{ne-eqb}
 use Rattle.machine.specs.declared.Counts.{Counts}
 use Rattle.machine.specs.declared.Refusal.{Refusal}
@@ -13,8 +12,8 @@ use Rattle.machine.specs.Bytes.{number}
 use Rattle.machine.specs.Lists.{tabulate, join}
 use Rattle.machine.specs.Text.{text, decimal, space, lineFeed, line}
 use Rattle.machine.specs.Refusals.{numberOf, placeOf}
-use Rattle.machine.specs.Report.{codeWord, recordLine, recordLines, countsLine, lastLine, refusalLine}
-use Rattle.machine.proofs.Text.{line-more}
+use Rattle.machine.specs.Report.{codeWord, recordLine, recordLines, countsLine, refusalLine}
+use Rattle.machine.proofs.Text.{decimal-8, decimal-32, line-more}
 use Rattle.text.specs.Piece.{Piece}
 use Rattle.blocks.proofs.Joined.{join-more}
 use Rattle.text.proofs.Laws.{piece-none, piece-then}
@@ -47,33 +46,15 @@ pair-then f g h fs first rest =
 
 -- ---- a record's line
 
--- the words of the codes, as code writes them
-module _ (code : ℕ) where
-  pub word-fill : code ≡ 2 → codeWord code ≡ 102 ∷ 105 ∷ 108 ∷ 108 ∷ []
-  unfolding text
-  word-fill is = rw is
+-- a code that no record has is called nothing
+pub word-none : (code : ℕ) → (code ≡ 2 → ⊥) → (code ≡ 3 → ⊥) → (code ≡ 4 → ⊥) → (code ≡ 5 → ⊥) → codeWord code ≡ []
+word-none code two three four five =
+    rw (ne-eqb code 2 two, ne-eqb code 3 three, ne-eqb code 4 four, ne-eqb code 5 five)
 
-  pub word-take : code ≡ 3 → codeWord code ≡ 116 ∷ 97 ∷ 107 ∷ 101 ∷ []
-  unfolding text
-  word-take is = rw is
-
-  pub word-sent : code ≡ 4 → codeWord code ≡ 115 ∷ 101 ∷ 110 ∷ 116 ∷ []
-  unfolding text
-  word-sent is = rw is
-
-  pub word-got : code ≡ 5 → codeWord code ≡ 103 ∷ 111 ∷ 116 ∷ []
-  unfolding text
-  word-got is = rw is
-
-  pub word-none : (code ≡ 2 → ⊥) → (code ≡ 3 → ⊥) → (code ≡ 4 → ⊥) → (code ≡ 5 → ⊥) → codeWord code ≡ []
-  word-none two three four five =
-      rw (ne-eqb code 2 two, ne-eqb code 3 three, ne-eqb code 4 four, ne-eqb code 5 five)
-
--- a code's word and a space, once it is known which word that is
-pub coded : {s t : List ℕ} {at end : ℕ} (code : ℕ) {word : List ℕ} → codeWord code ≡ word
-    → Piece s at (word ++ (space ∷ [])) t end
-    → Piece s at (codeWord code ++ (space ∷ [])) t end
-coded code is put = rw is put
+-- the digits of a record's numbers
+pub few-digits : (event process message : ℕ) → event < 2 ^ 32 → process < 256 → message < 2 ^ 32
+    → (length (decimal event) ≤ 10) × (length (decimal process) ≤ 3) × (length (decimal message) ≤ 10)
+few-digits event process message e p m = (decimal-32 event e, decimal-8 process p, decimal-32 message m)
 
 -- event, process, word, message
 module _ (ledger : List ℕ) (k : ℕ) {event process code message : ℕ} (is-event : event ≡ number ledger (12 * k) 4)
@@ -141,14 +122,3 @@ pub records-more : {s t u : List ℕ} {at end : ℕ} (ledger : List ℕ) (k : �
 unfolding recordLines
 records-more ledger k before next =
     rw (join-more (recordLine ledger) 0 k) (piece-then before (rw (zero-add k) next))
-
--- ---- the last line
-
-module _ {s t : List ℕ} {at end : ℕ} {stopped : Bool} where
-  pub last-stopped : stopped ≡ true → Piece s at (text "stopped" ++ (lineFeed ∷ [])) t end → Piece s at (lastLine stopped) t end
-  unfolding lastLine line
-  last-stopped is put = rw is put
-
-  pub last-moving : stopped ≡ false → Piece s at (text "moving" ++ (lineFeed ∷ [])) t end → Piece s at (lastLine stopped) t end
-  unfolding lastLine line
-  last-moving is put = rw is put

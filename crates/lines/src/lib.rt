@@ -1,4 +1,5 @@
-// The lines of ringrun's text, written into a page. Every function answers the place where the text goes on. Document 01, "The tape", its last paragraph.
+// The lines of ringrun's text, written into a page. Every function answers the place where the text goes on.
+// Document 01, "The tape", its last paragraph.
 use machine::Counts;
 use machine::Refusal;
 use record::byte::number_at;

@@ -153,11 +153,11 @@ putAt stage r =
 
 -- ---- the events
 
--- code 0: a put is wished at stage 0, with its message as the note
+-- code 0: a put is wished at stage 0, which becomes 1, with its message as the note
 unfoldable pub startPut : ℕ → Envelope → Process → Reaction
 startPut message e p = cond (eqb (p .stage) 0) (becomes Moved e (withStage 1 (withNote message p))) (idle e p)
 
--- code 1: a get is wished at stage 0
+-- code 1: a get is wished at stage 0, which becomes 6
 unfoldable pub startGet : Envelope → Process → Reaction
 startGet e p = cond (eqb (p .stage) 0) (becomes Moved e (withStage 6 p)) (idle e p)
 
@@ -168,7 +168,7 @@ work e p =
     (cond (eqb (p .stage) 8) (becomes (Take (e .message)) (holding empty 0 e) (withStage 9 p))
     (idle e p))
 
--- code 3, the local signal: a stage at which main has told something becomes the next one, and put has news
+-- code 3, the local signal: a stage at which main has told something (1, 4, 6, 9) becomes the next one, and put has news
 unfoldable pub signal : Envelope → Process → Reaction
 signal e p = cond (told (p .stage)) (becomes Moved e (withStage (p .stage + 1) (withNews true p))) (idle e p)
 

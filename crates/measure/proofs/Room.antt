@@ -35,16 +35,16 @@ records-few (v ∷ vs) st =
       records-few vs (rule.apply st v),
     )
 
-module _ {s tape : List ℕ} {total : ℕ} (ready : Playable s tape total) (room : ℕ) where
-  -- the ledger's bytes by its records
-  twelve : length (runRecords s tape) ≡ 12 * recordsFrom (stateIn s) (runEvents tape)
-  unfolding runRecords
-  twelve = length-ledger (runEvents tape) 0 (stateIn s)
+-- the ledger's bytes by its records
+pub twelve : (s tape : List ℕ) → length (runRecords s tape) ≡ 12 * recordsFrom (stateIn s) (runEvents tape)
+unfolding runRecords
+twelve s tape = length-ledger (runEvents tape) 0 (stateIn s)
 
+module _ {s tape : List ℕ} {total : ℕ} (ready : Playable s tape total) (room : ℕ) where
   pub room-at-once : total ≤ room / 12 → true ≡ leb (length (runRecords s tape)) room
   room-at-once h =
       sym (le-leb _ room
-      (omega (arith, twelve, records-few (runEvents tape) (stateIn s), length-events tape, ready .counted)))
+      (omega (arith, twelve s tape, records-few (runEvents tape) (stateIn s), length-events tape, ready .counted)))
 
   pub room-measured : {records : ℕ} → records ≡ recordsFrom (stateIn s) (runEvents tape)
       → leb records (room / 12) ≡ leb (length (runRecords s tape)) room
@@ -54,7 +54,7 @@ module _ {s tape : List ℕ} {total : ℕ} (ready : Playable s tape total) (room
           → leb records (room / 12) ≡ leb (length (runRecords s tape)) room
       go (inl short) =
           lt-leb records (room / 12) short
-          ∙ sym (lt-leb (length (runRecords s tape)) room (omega (arith, twelve, is)))
+          ∙ sym (lt-leb (length (runRecords s tape)) room (omega (arith, twelve s tape, is)))
       go (inr enough) =
           le-leb records (room / 12) enough
-          ∙ sym (le-leb (length (runRecords s tape)) room (omega (arith, twelve, is)))
+          ∙ sym (le-leb (length (runRecords s tape)) room (omega (arith, twelve s tape, is)))

@@ -1,11 +1,12 @@
 -- What an answer tells, taken apart: by its number it is done or refused, and its values are then those of the rule.
 -- Assumes nothing.
 use Prim.Native.Nat.{ℕ}
-use mathlib.Core.Path.{_≡_, refl, ap}
-use mathlib.Core.Bool.{Bool, true, false}
+use mathlib.Core.Path.{_≡_, refl, sym, ap, _∙_}
+use mathlib.Core.Bool.{Bool}
 use mathlib.Core.List.{List, [], _∷_}
 use native.Mathlib.Omega.{arith}
 use lib.ListN.{getD}
+use lib.Dec.{eqb}
 use Rattle.machine.specs.declared.Counts.{Counts}
 use Rattle.machine.specs.declared.Refusal.{Refusal}
 use Rattle.machine.specs.declared.Verdict.{Verdict}
@@ -14,6 +15,7 @@ use Rattle.machine.specs.Bytes.{bit}
 use Rattle.machine.specs.Run.{countValues}
 use Rattle.machine.specs.Answers.{Answer, answer}
 use Rattle.machine.specs.Report.{refusalLine, textBy}
+use Rattle.machine.proofs.Bits.{bit-is}
 use Rattle.machine.proofs.Refusals.{number-range}
 
 -- the number, and a value, of equal answers
@@ -50,11 +52,6 @@ same-counts c d e =
       records = value-same 7 e i;
     }
 
--- yes or no, by its number
-pub yes-is : (b : Bool) → answer Fine (1 ∷ []) ≡ answer Fine (bit b ∷ []) → b ≡ true
-yes-is true e = refl
-yes-is false e = absurd (omega (arith, value-same 0 e))
-
-pub no-is : (b : Bool) → answer Fine (0 ∷ []) ≡ answer Fine (bit b ∷ []) → b ≡ false
-no-is true e = absurd (omega (arith, value-same 0 e))
-no-is false e = refl
+-- yes or no
+pub same-bit : (a b : Bool) → answer Fine (bit a ∷ []) ≡ answer Fine (bit b ∷ []) → b ≡ a
+same-bit a b e = sym (bit-is b (bit b) refl) ∙ ap (λ (k : ℕ). eqb k 1) (sym (value-same 0 e)) ∙ bit-is a (bit a) refl

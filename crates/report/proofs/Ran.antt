@@ -3,10 +3,10 @@
 -- start and the image after the run stands for the rules' own state. Assumes nothing.
 use Prim.Native.Nat.{ℕ, _+_, _*_, _≤_, _<_}
 use mathlib.Core.Path.{_≡_, refl, sym, ap, ap₂, _∙_}
-use mathlib.Core.Bool.{Bool, true, false}
+use mathlib.Core.Bool.{Bool}
 use mathlib.Core.List.{List, [], _∷_, _++_}
 use native.Mathlib.Omega.{arith}
-use lib.ListN.{length, getD, drop, List·getD-append}
+use lib.ListN.{length, getD, drop, replicate, length-replicate, List·getD-append}
 use borrow.Author.Tests.{le-leb}
 use Rattle.machine.specs.declared.Counts.{Counts}
 use Rattle.machine.specs.declared.Refusal.{Refusal}
@@ -19,11 +19,10 @@ use Rattle.machine.specs.Run.{noCounts, countsFrom, countValues, ledgerFrom, af
 use Rattle.machine.specs.Refusals.{orElse, codes, imageVerdict, tapeVerdict, outputVerdict}
 use Rattle.machine.specs.Answers.{answer, runEvents, runRecords, runVerdict, runAnswer, runImage, runLedger, stoppedAnswer}
 use Rattle.machine.specs.Report.{recordLine, recordLines, countsLine, lastLine, refusalLine, ranText, textBy}
-use Rattle.machine.proofs.Tallies.{length-ledger}
 use Rattle.machine.proofs.Runs.{events-continue}
 use Rattle.blocks.proofs.Joined.{joined-same}
 use Rattle.tape.proofs.Events.{length-events, events-in-blocks, events-fit}
-use Rattle.measure.proofs.Room.{records-few}
+use Rattle.measure.proofs.Room.{records-few, twelve}
 use Rattle.span.proofs.Splices.{part-front}
 use Rattle.run.specs.declared.RunAnswer.{RunAnswer}
 use Rattle.run.specs.declared.RunAnswer.the-variants as run-answer
@@ -31,7 +30,11 @@ use Rattle.run.specs.Run as run
 use Rattle.stopped.specs.declared.StoppedAnswer.{StoppedAnswer}
 use Rattle.stopped.specs.declared.StoppedAnswer.the-variants as stopped-answer
 use Rattle.stopped.specs.Stopped as stopped
-use Rattle.report.proofs.Apart.{refused-line, done-fine, same-counts, yes-is, no-is}
+use Rattle.report.proofs.Apart.{refused-line, done-fine, same-counts, same-bit}
+
+-- zeros have room for as many bytes
+pub zeros-room : (n : ℕ) → n ≤ length (replicate {A = ℕ} n 0)
+zeros-room n = omega (arith, length-replicate {A = ℕ} n 0)
 
 -- ---- the lines of records at the start of a longer ledger
 
@@ -80,10 +83,6 @@ module _ (s tape ledger : List ℕ) (fine : imageVerdict s ≡ Fine) (few : leng
         events-in-blocks codes (sizeIn s) tape accepted,
       )
 
-  twelve : length (runRecords s tape) ≡ 12 * counts .records
-  unfolding runRecords
-  twelve = length-ledger (runEvents tape) 0 (stateIn s)
-
   -- the ledger has room for their records, so the tape's test decides
   tape-decides : runVerdict s tape ledger ≡ tested
   unfolding runVerdict outputVerdict
@@ -94,7 +93,7 @@ module _ (s tape ledger : List ℕ) (fine : imageVerdict s ≡ Fine) (few : leng
       go Fine e = enough (records-most e)
         where
           enough : counts .records ≤ 4032 → outputVerdict (length (runRecords s tape)) ledger ≡ Fine
-          enough most = rw (le-leb (length (runRecords s tape)) (length ledger) (omega (arith, twelve, room)))
+          enough most = rw (le-leb (length (runRecords s tape)) (length ledger) (omega (arith, twelve s tape, room)))
 
   module _ (a : RunAnswer) (says : run.told a ≡ runAnswer s tape ledger) where
     told-as : run.told a ≡ answer tested (countValues counts)
@@ -128,7 +127,7 @@ module _ (s tape ledger : List ℕ) (fine : imageVerdict s ≡ Fine) (few : leng
       entries left =
           let records = runRecords s tape in
           ap₂ recordLines (left ∙ rw (tape-decides ∙ accepted)) (ap (λ (n : Counts). n .records) same)
-          ∙ lines-at-start records ledger (counts .records) (omega (arith, twelve))
+          ∙ lines-at-start records ledger (counts .records) (omega (arith, twelve s tape))
 
       -- the image as the run left it
       module _ (small : Bytes s) (small-tape : Bytes tape) where
@@ -154,11 +153,9 @@ module _ (s tape ledger : List ℕ) (fine : imageVerdict s ≡ Fine) (few : leng
               refused-line Fine (bit at-rest ∷ []) (textBy tested (ranText (stateIn s) (runEvents tape))) r
               (sym (ap stopped.told it) ∙ told ∙ state-after left)
 
-          pub stopped-yes : b ≡ stopped-answer.Yes → at-rest ≡ true
-          stopped-yes it = yes-is at-rest (sym (ap stopped.told it) ∙ told ∙ state-after left)
-
-          pub stopped-no : b ≡ stopped-answer.No → at-rest ≡ false
-          stopped-no it = no-is at-rest (sym (ap stopped.told it) ∙ told ∙ state-after left)
+          -- yes and no are the rule's
+          pub stopped-says : (said : Bool) → stopped.told b ≡ answer Fine (bit said ∷ []) → at-rest ≡ said
+          stopped-says said it = same-bit said at-rest (sym it ∙ told ∙ state-after left)
 
         -- lines, counts and whether it is stopped are the rules' text
         pub run-done : {l : List ℕ} → l ≡ runLedger s tape ledger → {yes : Bool} → at-rest ≡ yes

@@ -77,3 +77,18 @@ pub fn byte_lines(lines: &mut Vec<String>, buffer: &str, (x, a): (&str, &[u8]), 
         lines.push(format!("{buffer}: {} further bytes", differing.len() - 10));
     }
 }
+
+/// Adds a line if the numbers that two named sides returned differ.
+pub fn number_line(lines: &mut Vec<String>, (x, a): (&str, u64), (y, b): (&str, u64)) {
+    if a != b {
+        lines.push(format!("number: {a} ({x}), {b} ({y})"));
+    }
+}
+
+/// Adds lines for what a named side changed though it may not: bytes lent to be read, and bytes around the slices.
+pub fn kept_lines(lines: &mut Vec<String>, buffer: &str, (name, after): (&str, &[u8]), lent: &[u8], around_kept: bool) {
+    byte_lines(lines, buffer, (name, after), ("lent", lent));
+    if !around_kept {
+        lines.push(format!("bytes around the lent slices changed ({name})"));
+    }
+}

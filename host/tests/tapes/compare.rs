@@ -2,7 +2,7 @@
 
 use crate::calls::Calls;
 use crate::case::{Call, Case};
-use crate::lent::{byte_lines, further, Lent};
+use crate::lent::{byte_lines, further, kept_lines, number_line, Lent};
 
 /// All that a call shows.
 pub struct Answer {
@@ -57,16 +57,11 @@ fn perform<C: Calls>(case: &Case, input: &[u8]) -> Answer {
 /// What differs, a line each; nothing if the answers are the same and neither wrote where it may not.
 fn differences(input: &[u8], (x, a): (&str, &Answer), (y, b): (&str, &Answer)) -> Vec<String> {
     let mut lines = Vec::new();
-    if a.number != b.number {
-        lines.push(format!("number: {} ({x}), {} ({y})", a.number, b.number));
-    }
+    number_line(&mut lines, (x, a.number), (y, b.number));
     byte_lines(&mut lines, "output", (x, &a.output), (y, &b.output));
     byte_lines(&mut lines, "result", (x, &a.result), (y, &b.result));
     for (name, answer) in [(x, a), (y, b)] {
-        byte_lines(&mut lines, "list or tape", (name, &answer.input), ("lent", input));
-        if !answer.around_kept {
-            lines.push(format!("bytes around the lent slices changed ({name})"));
-        }
+        kept_lines(&mut lines, "list or tape", (name, &answer.input), input, answer.around_kept);
     }
     lines
 }

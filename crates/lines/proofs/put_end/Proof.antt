@@ -1,7 +1,9 @@
 -- One word by what is told. Assumes nothing.
+use mathlib.Core.Path.{sym, ap}
 use native.Mathlib.Omega.{arith}
-use Rattle.machine.specs.Text.{text}
-use Rattle.lines.proofs.Lines.{last-stopped, last-moving}
+use Rattle.machine.specs.Text.{text, line}
+use Rattle.machine.specs.Report.{lastLine}
+use Rattle.text.proofs.Laws.{piece-is}
 use Rattle.lines.proofs.put_end.Statement.{statement}
 use Rattle.lines.proofs.put_end.Tie as tie
 
@@ -21,15 +23,15 @@ same-length : tie.Need-same-length
 same-length c = omega arith
 
 returns : tie.Need-returns
-unfolding text
-returns c = last-stopped (c .before .before .before .before .before .if1 .taken) (c .before .before .text-field .ensures .0)
+unfolding lastLine line text
+returns c = piece-is (ap lastLine (sym (c .before .before .before .before .before .if1 .taken))) (c .before .before .text-field .ensures .0)
 
 same-length-2 : tie.Need-same-length-2
 same-length-2 c = omega arith
 
 returns-2 : tie.Need-returns-2
-unfolding text
-returns-2 c = last-moving (c .before .before .before .before .before .if1 .left) (c .before .before .text-field2 .ensures .0)
+unfolding lastLine line text
+returns-2 c = piece-is (ap lastLine (sym (c .before .before .before .before .before .if1 .left))) (c .before .before .text-field2 .ensures .0)
 
 pub put-end-spec : {M : Type 1} → statement M
 put-end-spec =

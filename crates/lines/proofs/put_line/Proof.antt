@@ -1,8 +1,7 @@
 -- Four fields, of at most 10, 3, 4 and 10 characters, with a byte behind each. Assumes nothing.
 use mathlib.Core.Path.{refl}
 use native.Mathlib.Omega.{arith}
-use Rattle.machine.proofs.Text.{decimal-8, decimal-32}
-use Rattle.lines.proofs.Lines.{record-lined}
+use Rattle.lines.proofs.Lines.{few-digits, record-lined}
 use Rattle.lines.proofs.put_line.Statement.{statement}
 use Rattle.lines.proofs.put_line.Tie as tie
 
@@ -42,42 +41,30 @@ cast-message c = omega arith
 decimal-field-requires : tie.Need-decimal-field-requires
 decimal-field-requires c κs =
     let n = c .before in
-    omega (
-      arith,
-      decimal-32 (n .before .before .before .before .number-at .result) (omega arith),
-      decimal-8 (n .before .before .wide64 .result) (omega arith),
-      decimal-32 (n .number-at2 .result) (omega arith),
-    )
+    let e = n .before .before .before .before .number-at .result in
+    let p = n .before .before .wide64 .result in
+    omega (arith, few-digits e p (n .number-at2 .result) (omega arith) (omega arith) (omega arith))
 
 decimal-field-requires-2 : tie.Need-decimal-field-requires-2
 decimal-field-requires-2 c κs =
     let n = c .before .before .before .before .before in
-    omega (
-      arith,
-      decimal-32 (n .before .before .before .before .number-at .result) (omega arith),
-      decimal-8 (n .before .before .wide64 .result) (omega arith),
-      decimal-32 (n .number-at2 .result) (omega arith),
-    )
+    let e = n .before .before .before .before .number-at .result in
+    let p = n .before .before .wide64 .result in
+    omega (arith, few-digits e p (n .number-at2 .result) (omega arith) (omega arith) (omega arith))
 
 put-code-requires : tie.Need-put-code-requires
 put-code-requires c κs =
     let n = c .before .before .before .before .before .before .before .before .before in
-    omega (
-      arith,
-      decimal-32 (n .before .before .before .before .number-at .result) (omega arith),
-      decimal-8 (n .before .before .wide64 .result) (omega arith),
-      decimal-32 (n .number-at2 .result) (omega arith),
-    )
+    let e = n .before .before .before .before .number-at .result in
+    let p = n .before .before .wide64 .result in
+    omega (arith, few-digits e p (n .number-at2 .result) (omega arith) (omega arith) (omega arith))
 
 decimal-field-requires-3 : tie.Need-decimal-field-requires-3
 decimal-field-requires-3 c κs =
     let n = c .before .before .before .before .before .before .before .before .before .before .before .before .before in
-    omega (
-      arith,
-      decimal-32 (n .before .before .before .before .number-at .result) (omega arith),
-      decimal-8 (n .before .before .wide64 .result) (omega arith),
-      decimal-32 (n .number-at2 .result) (omega arith),
-    )
+    let e = n .before .before .before .before .number-at .result in
+    let p = n .before .before .wide64 .result in
+    omega (arith, few-digits e p (n .number-at2 .result) (omega arith) (omega arith) (omega arith))
 
 same-length : tie.Need-same-length
 same-length c = omega arith
@@ -85,16 +72,14 @@ same-length c = omega arith
 returns : tie.Need-returns
 returns c =
     let n = c .before .before .before .before .before .before .before .before .before .before .before .before .before .before .before .before in
-    let a = n .before .before .before .before .before .before .before .args in (
+    let a = n .before .before .before .before .before .before .before .args in
+    let e = n .before .before .before .before .number-at .result in
+    let p = n .before .before .wide64 .result in (
       record-lined (a .ledger .now) (a .k) (n .before .before .before .before .number-at .ensures) (n .before .before .wide64 .ensures .0) refl
-          (n .number-at2 .ensures) (c .before .before .before .before .before .before .before .before .before .before .before .before .before .before .decimal-field .ensures .0) (c .before .before .before .before .before .before .before .before .before .before .decimal-field2 .ensures .0)
+          (n .number-at2 .ensures) (c .before .before .before .before .before .before .before .before .before .before .before .before .before .before .decimal-field .ensures .0)
+          (c .before .before .before .before .before .before .before .before .before .before .decimal-field2 .ensures .0)
           (c .before .before .before .before .before .before .put-code .ensures .0) (c .before .before .decimal-field3 .ensures .0),
-      omega (
-        arith,
-        decimal-32 (n .before .before .before .before .number-at .result) (omega arith),
-        decimal-8 (n .before .before .wide64 .result) (omega arith),
-        decimal-32 (n .number-at2 .result) (omega arith),
-      ),
+      omega (arith, few-digits e p (n .number-at2 .result) (omega arith) (omega arith) (omega arith)),
     )
 
 pub put-line-spec : {M : Type 1} → statement M

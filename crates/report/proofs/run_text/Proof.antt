@@ -1,22 +1,21 @@
 -- A refused run has the tape's own refusal; after one that is done, lines, counts and the last line are the rules' text,
 -- and stopped isn't refused. Assumes nothing.
-use Prim.Native.Nat.{ℕ, _≤_}
-use mathlib.Core.Path.{_∙_}
+use Prim.Native.Nat.{ℕ}
+use mathlib.Core.Path.{ap, _∙_}
+use mathlib.Core.Bool.{true, false}
 use mathlib.Core.List.{List}
 use mathlib.Core.Logic.{⊎-elim}
 use native.Mathlib.Omega.{arith}
-use lib.ListN.{length, replicate, length-replicate}
+use lib.ListN.{replicate}
+use Rattle.stopped.specs.Stopped.{told}
 use Rattle.text.proofs.Laws.{piece-is}
-use Rattle.report.proofs.Ran.{run-refused, records-few-told, stopped-refused, stopped-yes, stopped-no, run-done}
+use Rattle.report.proofs.Ran.{zeros-room, run-refused, records-few-told, stopped-refused, stopped-says, run-done}
 use Rattle.report.proofs.run_text.Statement.{statement}
 use Rattle.report.proofs.run_text.Tie as tie
 
 -- the ledger before the run
 abbrev blank : List ℕ
 blank = replicate 48384 0
-
-blank-room : 48384 ≤ length blank
-blank-room = omega (arith, length-replicate {A = ℕ} 48384 0)
 
 slice-aggregate-run : tie.Need-slice-aggregate-run
 slice-aggregate-run c = omega arith
@@ -66,7 +65,7 @@ returns-2 c =
     let fine = start .pre .0 in
     let few = start .pre .1 in
     let refused = c .before .before .before .before .before .before .before .before .ran2 .given .1 ∙ c .before .before .before .before .before .ran3 .given .1 in
-    piece-is (run-refused image tape blank fine few blank-room _ (g .run .ensures .0) refused) (c .before .before .put-refusal2 .ensures)
+    piece-is (run-refused image tape blank fine few (zeros-room 48384) _ (g .run .ensures .0) refused) (c .before .before .put-refusal2 .ensures)
 
 stopped-requires : tie.Need-stopped-requires
 stopped-requires c κs = tt
@@ -116,7 +115,7 @@ returns-4 c =
     let is-done = c .before .before .before .before .before .before .before .before .before .before .before .before .ran .given .1 in
     let rest = c .before .before .before .before .before .before .before .before .before .stopped in
     piece-is
-    (stopped-refused image tape blank fine few blank-room _ (g .run .ensures .0) is-done
+    (stopped-refused image tape blank fine few (zeros-room 48384) _ (g .run .ensures .0) is-done
     (λ k. omega (arith, g .before .before .before .before .before .slice-known .given k)) (λ k. omega (arith, g .before .before .before .before .shared-slice-known .given k))
     (g .run .ensures .1 .0) (rest .result) (rest .ensures) (c .before .before .before .before .before .at-rest .given .1))
     (c .before .before .put-refusal4 .ensures)
@@ -132,8 +131,8 @@ put-ran-requires c κs =
     let tape = start .args .tape .now in
     let fine = start .pre .0 in
     let few = start .pre .1 in
-    let most = records-few-told image tape blank fine few blank-room _ (g .run .ensures .0) (c .before .before .before .before .before .before .before .before .ran .given .1) in
-    (omega (arith, most, start .pre .2), omega (arith, most, blank-room, g .run .kept))
+    let most = records-few-told image tape blank fine few (zeros-room 48384) _ (g .run .ensures .0) (c .before .before .before .before .before .before .before .before .ran .given .1) in
+    (omega (arith, most, start .pre .2), omega (arith, most, (zeros-room 48384), g .run .kept))
 
 same-length-9 : tie.Need-same-length-9
 same-length-9 c = omega arith
@@ -151,11 +150,11 @@ returns-5 c =
     let few = start .pre .1 in
     let is-done = c .before .before .before .before .before .before .before .before .before .before .before .ran .given .1 in
     let rest = c .before .before .before .before .before .before .before .before .stopped in
-    let ends = stopped-no image tape blank fine few blank-room _ (g .run .ensures .0) is-done
+    let ends = stopped-says image tape blank fine few (zeros-room 48384) _ (g .run .ensures .0) is-done
     (λ k. omega (arith, g .before .before .before .before .before .slice-known .given k)) (λ k. omega (arith, g .before .before .before .before .shared-slice-known .given k))
-    (g .run .ensures .1 .0) (rest .result) (rest .ensures) (c .before .before .before .before .before .enum-told3 .given .1) in
+    (g .run .ensures .1 .0) (rest .result) (rest .ensures) false (ap told (c .before .before .before .before .before .enum-told3 .given .1)) in
     piece-is
-    (run-done image tape blank fine few blank-room _ (g .run .ensures .0) is-done
+    (run-done image tape blank fine few (zeros-room 48384) _ (g .run .ensures .0) is-done
     (λ k. omega (arith, g .before .before .before .before .before .slice-known .given k)) (λ k. omega (arith, g .before .before .before .before .shared-slice-known .given k))
     (g .run .ensures .1 .1) ends)
     (c .before .before .put-ran .ensures)
@@ -171,8 +170,8 @@ put-ran-requires-2 c κs =
     let tape = start .args .tape .now in
     let fine = start .pre .0 in
     let few = start .pre .1 in
-    let most = records-few-told image tape blank fine few blank-room _ (g .run .ensures .0) (c .before .before .before .before .before .before .before .ran .given .1) in
-    (omega (arith, most, start .pre .2), omega (arith, most, blank-room, g .run .kept))
+    let most = records-few-told image tape blank fine few (zeros-room 48384) _ (g .run .ensures .0) (c .before .before .before .before .before .before .before .ran .given .1) in
+    (omega (arith, most, start .pre .2), omega (arith, most, (zeros-room 48384), g .run .kept))
 
 same-length-11 : tie.Need-same-length-11
 same-length-11 c = omega arith
@@ -190,11 +189,11 @@ returns-6 c =
     let few = start .pre .1 in
     let is-done = c .before .before .before .before .before .before .before .before .before .before .ran .given .1 in
     let rest = c .before .before .before .before .before .before .before .stopped in
-    let ends = stopped-yes image tape blank fine few blank-room _ (g .run .ensures .0) is-done
+    let ends = stopped-says image tape blank fine few (zeros-room 48384) _ (g .run .ensures .0) is-done
     (λ k. omega (arith, g .before .before .before .before .before .slice-known .given k)) (λ k. omega (arith, g .before .before .before .before .shared-slice-known .given k))
-    (g .run .ensures .1 .0) (rest .result) (rest .ensures) (c .before .before .before .before .before .enum-told2 .given .1) in
+    (g .run .ensures .1 .0) (rest .result) (rest .ensures) true (ap told (c .before .before .before .before .before .enum-told2 .given .1)) in
     piece-is
-    (run-done image tape blank fine few blank-room _ (g .run .ensures .0) is-done
+    (run-done image tape blank fine few (zeros-room 48384) _ (g .run .ensures .0) is-done
     (λ k. omega (arith, g .before .before .before .before .before .slice-known .given k)) (λ k. omega (arith, g .before .before .before .before .shared-slice-known .given k))
     (g .run .ensures .1 .1) ends)
     (c .before .before .put-ran2 .ensures)

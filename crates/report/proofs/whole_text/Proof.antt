@@ -1,10 +1,11 @@
 -- Each refusal is the rule's first; past them the run's text is the whole one. Assumes nothing.
-use Prim.Native.Nat.{ℕ, _≤_}
+use Prim.Native.Nat.{ℕ}
 use mathlib.Core.Path.{_∙_}
 use mathlib.Core.List.{List}
 use native.Mathlib.Omega.{arith}
-use lib.ListN.{length, replicate, length-replicate}
+use lib.ListN.{replicate}
 use Rattle.text.proofs.Laws.{piece-is}
+use Rattle.report.proofs.Ran.{zeros-room}
 use Rattle.report.proofs.Whole.{blocks-given, blocks-few, fresh-refused, length-refused, image-accepted, run-whole}
 use Rattle.report.proofs.whole_text.Statement.{statement}
 use Rattle.report.proofs.whole_text.Tie as tie
@@ -12,9 +13,6 @@ use Rattle.report.proofs.whole_text.Tie as tie
 -- the image before the fresh ring is written
 abbrev blank : List ℕ
 blank = replicate 528 0
-
-blank-room : 528 ≤ length blank
-blank-room = omega (arith, length-replicate {A = ℕ} 528 0)
 
 given-requires : tie.Need-given-requires
 given-requires c κs = tt
@@ -62,7 +60,7 @@ returns-2 c =
     let n = g .before .before .before .given .ensures .0 in
     let home = g .before .before .given2 .ensures .0 in
     let refused = c .before .before .before .before .before .before .before .before .fresh2 .given .1 ∙ c .before .before .before .before .before .fresh3 .given .1 in
-    piece-is (fresh-refused input blank blank-room n home _ (g .fresh .ensures .0) refused)
+    piece-is (fresh-refused input blank (zeros-room 528) n home _ (g .fresh .ensures .0) refused)
     (c .before .before .put-refusal2 .ensures)
 
 put-refusal-requires-3 : tie.Need-put-refusal-requires-3
@@ -78,7 +76,7 @@ returns-3 c =
     let n = g .before .before .before .given .ensures .0 in
     let home = g .before .before .given2 .ensures .0 in
     let done = c .before .before .before .before .before .enum-told .given .1 in
-    piece-is (length-refused input blank blank-room n home _ (g .fresh .ensures .0) done (omega arith))
+    piece-is (length-refused input blank (zeros-room 528) n home _ (g .fresh .ensures .0) done (omega arith))
     (c .before .before .put-refusal3 .ensures)
 
 blocks-from-requires : tie.Need-blocks-from-requires
@@ -103,7 +101,7 @@ run-text-requires c κs =
     let n = g .before .before .before .given .ensures .0 in
     let home = g .before .before .given2 .ensures .0 in
     let done = c .before .before .before .before .before .enum-told .given .1 in (
-      image-accepted input blank blank-room n home _ (g .fresh .ensures .0) done (g .fresh .ensures .1),
+      image-accepted input blank (zeros-room 528) n home _ (g .fresh .ensures .0) done (g .fresh .ensures .1),
       blocks-few input (c .before .before .before .blocks-from .ensures) (omega arith),
       omega arith,
     )
@@ -120,7 +118,7 @@ returns-4 c =
     let done = c .before .before .before .before .before .before .before .before .before .enum-told .given .1 in
     let tape = blocks-given input (c .before .before .before .before .before .before .before .blocks-from .ensures) in
     piece-is
-    (run-whole input blank blank-room n home _ (g .fresh .ensures .0) done (g .fresh .ensures .1) (omega arith) tape)
+    (run-whole input blank (zeros-room 528) n home _ (g .fresh .ensures .0) done (g .fresh .ensures .1) (omega arith) tape)
     (c .before .before .before .run-text .ensures)
 
 pub whole-text-spec : {M : Type 1} → statement M
