@@ -3,6 +3,7 @@
 //! The header's first 8 bytes and each process record are handled as one little-endian 64-bit word.
 
 use super::answer::Refusal;
+use super::SETS;
 
 pub const LEAST_SIZE: u64 = 2;
 pub const MOST_SIZE: u64 = 64;
@@ -104,21 +105,34 @@ pub fn sound<const FAULT: u8>(image: &[u8]) -> Result<(Envelope, &[[u8; 8]]), Re
     Ok((envelope, records))
 }
 
-/// Whether header and records hold together, in one walk over the records.
+/// Whether header and records hold together, in one walk over the records: the marks are summed up with the flags, or
+/// gathered in two sets whose ones are counted.
 #[inline(always)]
 fn all_sound<const FAULT: u8>(envelope: Envelope, records: &[[u8; 8]]) -> bool {
     let tested = &Tested::<FAULT>::BY_STATUS[envelope.status() as usize];
     let mut wrong = 0;
     let mut have_and_full = 0;
     let mut arriving_and_empty = 0;
+    let (mut full, mut empty) = (0u64, 0u64);
     for record in records {
         let record = u64::from_le_bytes(*record);
         wrong |= (record ^ HAVE) & tested[(record & 15) as usize];
-        have_and_full += record & (HAVE | MARKED_FULL);
-        arriving_and_empty += record & (ARRIVING | MARKED_EMPTY);
+        if FAULT == SETS {
+            have_and_full += record & HAVE;
+            arriving_and_empty += record & ARRIVING;
+            full = full << 1 | record >> 20 & 1;
+            empty = empty << 1 | record >> 21 & 1;
+        } else {
+            have_and_full += record & (HAVE | MARKED_FULL);
+            arriving_and_empty += record & (ARRIVING | MARKED_EMPTY);
+        }
     }
     let places = (have_and_full >> 8 & 0x7F) + (arriving_and_empty >> 9 & 0x7F);
-    let marked = (have_and_full >> 20) << 24 | (arriving_and_empty >> 21) << 32;
+    let marked = if FAULT == SETS {
+        u64::from(full.count_ones()) << 24 | u64::from(empty.count_ones()) << 32
+    } else {
+        (have_and_full >> 20) << 24 | (arriving_and_empty >> 21) << 32
+    };
     wrong == 0 && places == 1 && header_sound(envelope, marked)
 }
 

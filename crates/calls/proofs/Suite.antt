@@ -16,8 +16,8 @@ use Rattle.machine.specs.declared.Verdict.{Verdict}
 use Rattle.machine.specs.declared.Verdict.the-variants.{Fine, Refused}
 use Rattle.machine.specs.Bytes.{Bytes, bit}
 use Rattle.machine.specs.Lists.{tabulate}
-use Rattle.machine.specs.Image.{State, sizeIn, stateIn}
-use Rattle.machine.specs.Events.{Event, outcome, apply}
+use Rattle.machine.specs.Image.{sizeIn, stateIn}
+use Rattle.machine.specs.Events.{outcome}
 use Rattle.machine.specs.Stopped.{stopped}
 use Rattle.machine.specs.Run.{outcomeNumber, noCounts, countsFrom, countValues}
 use Rattle.machine.specs.Balance.{Totals}
@@ -32,7 +32,7 @@ use Rattle.machine.proofs.Stored.{length-state}
 use Rattle.machine.proofs.Rewrite.{read-in-range}
 use Rattle.machine.proofs.Refusals.{number-range, event-below, first-fine, second-fine}
 use Rattle.ledger.specs.Bounds.{NoneAbove}
-use Rattle.ledger.proofs.Bounds.{none-above-le, none-above-start, counted-above}
+use Rattle.ledger.proofs.Bounds.{none-above-le, none-above-start, counts-few}
 use Rattle.tape.proofs.Events.{length-events, events-few}
 use Rattle.result.specs.Short.{tooShort}
 use Rattle.result.proofs.Read.{FitWords, values-read}
@@ -103,14 +103,6 @@ counts-fit c =
     one (count-fits (c .puts)) (one (count-fits (c .gets)) (one (count-fits (c .fills)) (one (count-fits (c .takes))
     (one (count-fits (c .sent)) (one (count-fits (c .got)) (one (count-fits (c .idle))
     (one (count-fits (c .records)) none)))))))
-
--- no count is above the number of events
-counts-few : (vs : List Event) (st : State) (k : ℕ) {c : Counts} → NoneAbove k c
-    → NoneAbove (k + length vs) (countsFrom c st vs)
-unfolding countsFrom
-counts-few [] st k above = none-above-le (omega arith) above
-counts-few (v ∷ vs) st k above =
-    none-above-le (omega arith) (counts-few vs (apply st v) (k + 1) (counted-above (v .code) (outcome st v) above))
 
 module _ (image : List ℕ) (small : Bytes image) where
   step-fits : (event : List ℕ) → Bytes event → stepVerdict image event ≡ Fine

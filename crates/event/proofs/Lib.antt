@@ -1,4 +1,14 @@
--- Laws that the functions of this crate cite.
-pub mod Codes
+-- Laws that the functions of this crate, and those above it, cite.
 pub mod Bytes
 pub mod Apart
+pub mod Codes
+pub mod Possible
+pub mod Next
+pub mod Works
+pub mod Bits
+pub mod Made
+pub mod Passed
+pub mod Marks
+pub mod Forward
+pub mod Stages
+pub mod Applied

@@ -1,31 +1,23 @@
-// An event as a struct by value: read from eight bytes, tested, and applied to the envelope and its process's record.
-// What it does to a neighbour is handed back too: the neighbour's record follows by `requested` or `arrived`.
-// Document 01, "The eight events".
-use get::becomes;
-use get::hear;
-use get::receive;
-use get::signal;
-use get::start_get;
-use get::start_put;
-use get::work;
-use machine::Envelope;
+// An event as a struct by value: read from eight bytes, tested, and applied to the header and its process's record. What
+// it does comes back by value too, the only place where an event's effect is decided. Document 01, "The eight events".
 use machine::Outcome;
-use machine::Pair;
-use machine::Process;
-use machine::Reaction;
 use machine::Refusal;
-use put::put_at;
 use record::byte::number_at;
 use record::byte::wide;
+use record::header::Header;
+use record::process::Record;
 ghost use mathlib.Core.Path.{_≡_};
-ghost use mathlib.Core.Bool.{true};
-ghost use Prim.Native.Nat.{_+_, _≤_};
+ghost use Prim.Native.Nat.{_+_, _≤_, _<_};
 ghost use lib.ListN.{length};
-ghost use Rattle.machine.specs.Events as rule;
 ghost use Rattle.machine.specs.Tape.{eventIn};
 ghost use Rattle.machine.specs.Refusals.{codes as known, eventFits, eventVerdict};
-ghost use Rattle.put.specs.Ready.{Ready};
+ghost use Rattle.machine.specs.Events as rule;
+ghost use Rattle.record.specs.Words.{stageOf, shownProcess, shownEnvelope, Tidy, TidyHeader};
 ghost use Rattle.event.specs.Parsed.{eventOf, parsedAs};
+ghost use Rattle.event.specs.Rows.{codesAt, needOf, rowOf, Possible};
+ghost use Rattle.event.specs.Reaction.{leavesIn, worked, Applicable, Reacts};
+
+pub mod put; // put.rt: the put thread, code 7
 
 // At which process, its code, and the message of code 0.
 pub struct Event {
@@ -40,17 +32,165 @@ pub enum Parsed {
     Refused(Refusal),
 }
 
-// Code 7, put: only with news, which it clears.
-fn put(e: Envelope, p: Process) -> Reaction
-    requires { ⌜ Ready e p ⌝ }
-    ensures { λ r. ⌜ r ≡ rule.put e p ⌝ }
-{
-    if p.news {
-        let mut q = p;
-        q.news = false;
-        return put_at(becomes(Outcome::Moved, e, q));
+// Which neighbour an event reaches: none, the left with requests for its link, or the right with the envelope. Requests
+// are 0 to 3: a put without the envelope always reaches the left, since whether it asks for anything can't be foreseen.
+pub enum Reach {
+    Own,
+    Left(u64),
+    Right,
+}
+
+impl Reach {
+    // Whether the envelope leaves.
+    fn leaves(self) -> bool
+        ensures { λ r. ⌜ r ≡ leavesIn self ⌝ }
+    {
+        match self {
+            Reach::Own => false,
+            Reach::Left(_) => false,
+            Reach::Right => true,
+        }
     }
-    becomes(Outcome::Idle, e, p)
+}
+
+// What an event does: to its own record and to the header, which neighbour it reaches, what it counts as started, and the
+// outcome.
+pub struct Reaction {
+    pub own: Record,
+    pub header: Header,
+    pub reach: Reach,
+    pub started: u64,
+    pub outcome: Outcome,
+}
+
+// The codes that a stage makes possible, as bits of byte 3, which is zero in a record: bit c stands for code c, 0 to 3. One
+// value an arm and a last entry of its own, so that they lie in one table.
+fn codes_at(stage: u64) -> u64
+    requires { ⌜ stage < 16 ⌝ }
+    ensures { λ r. ⌜ r ≡ codesAt stage ⌝ }
+{
+    match stage {
+        0 => 0x300_0000,
+        1 => 0x800_0000,
+        3 => 0x400_0000,
+        4 => 0x800_0000,
+        6 => 0x800_0000,
+        8 => 0x400_0000,
+        9 => 0x800_0000,
+        15 => 0x1000_0000,
+        _ => 0,
+    }
+}
+
+// The bit that makes an event possible, by code: one of those for codes 0 to 3, then arriving, the link's requests for
+// full and for empty, news. All codes are named, so that the table needs no test of its range.
+fn need_of(code: u8) -> u64
+    requires { ⌜ code < 8 ⌝ }
+    ensures { λ r. ⌜ r ≡ needOf code ⌝ }
+{
+    match code {
+        0 => 0x100_0000,
+        1 => 0x200_0000,
+        2 => 0x400_0000,
+        3 => 0x800_0000,
+        4 => 0x200,
+        5 => 0x40_0000,
+        6 => 0x80_0000,
+        7 => 0x400,
+        _ => 0,
+    }
+}
+
+// What a possible event does to its own record before anything else: bits off, and what is then added, which is the stage's
+// step and bits that are off; and what it counts as started.
+pub struct Row {
+    pub off: u64,
+    pub on: u64,
+    pub started: u64,
+}
+
+// A row for each code: one match that hands back all of it, since two matches over one value become a jump.
+fn row_of(code: u8) -> Row
+    requires { ⌜ code < 8 ⌝ }
+    ensures { λ r. ⌜ r ≡ rowOf code ⌝ }
+{
+    match code {
+        0 => Row {
+            off: 0xFFFF_FFFF_0000_0000,
+            on: 0x1,
+            started: 0x1_0000_0000_0000,
+        },
+        1 => Row {
+            off: 0,
+            on: 0x6,
+            started: 0x100_0000_0000_0000,
+        },
+        2 => Row {
+            off: 0,
+            on: 0x1,
+            started: 0,
+        },
+        3 => Row {
+            off: 0x400,
+            on: 0x401,
+            started: 0,
+        },
+        4 => Row {
+            off: 0x700,
+            on: 0x500,
+            started: 0,
+        },
+        5 => Row {
+            off: 0x41_0400,
+            on: 0x1_0400,
+            started: 0,
+        },
+        6 => Row {
+            off: 0x82_0400,
+            on: 0x2_0400,
+            started: 0,
+        },
+        7 => Row {
+            off: 0x400,
+            on: 0,
+            started: 0,
+        },
+        _ => Row {
+            off: 0,
+            on: 0,
+            started: 0,
+        },
+    }
+}
+
+// The record and the header become these, and no neighbour is reached.
+fn becomes(outcome: Outcome, header: Header, own: Record, started: u64) -> Reaction
+    ensures { λ r. ⌜ r
+        ≡ record { own = own; header = header; reach = Reach.Own; started = started; outcome = outcome } ⌝ }
+{
+    Reaction {
+        own: own,
+        header: header,
+        reach: Reach::Own,
+        started: started,
+        outcome: outcome,
+    }
+}
+
+// Code 2, main works, its stage already the next: it fills the envelope with the note, or takes the message out.
+fn work(header: Header, own: Record) -> Reaction
+    requires { ⌜ Tidy (own .word) × TidyHeader header ⌝ }
+    ensures { λ r. ⌜ Reacts (worked (shownEnvelope header) (shownProcess (own .word))) header 0 r ⌝ }
+{
+    if own.stage() == 4 {
+        let note = own.note();
+        let left = Record {
+            word: own.word % 0x1_0000_0000,
+        };
+        return becomes(Outcome::Fill(note as u32), header.filled(note), left, 0);
+    }
+    let message = header.message as u32;
+    becomes(Outcome::Take(message), header.emptied(), own, 0)
 }
 
 impl Event {
@@ -94,45 +234,34 @@ impl Event {
         }
     }
 
-    // Internal: what the event does at a process with this record.
-    pub fn apply(self, e: Envelope, own: Process) -> Reaction
-        requires { ⌜ Ready e own ⌝ }
-        ensures { λ r. ⌜ r ≡ rule.react (self .code) (self .message) e own ⌝ }
+    // Internal: whether the event is possible at a process with this record: one test of its bits, and of those that its
+    // stage stands for.
+    pub fn is_possible(self, own: Record) -> bool
+        requires { ⌜ (self .code < 8) × Tidy (own .word) × (stageOf (own .word) ≤ 10) ⌝ }
+        ensures { λ r. ⌜ Possible (self .code) (own .word) r ⌝ }
+    {
+        (own.word | codes_at(own.word % 16)) & need_of(self.code % 8) != 0
+    }
+
+    // Internal: what the event, which is possible, does at a process with this record.
+    pub fn apply(self, header: Header, own: Record) -> Reaction
+        requires { ⌜ Applicable self header own ⌝ }
+        ensures { λ r. ⌜ Reacts (rule.react (self .code) (self .message) (shownEnvelope header) (shownProcess (own .word)))
+            header (rowOf (self .code) .started) r ⌝ }
     {
         let code = self.code;
-        match code {
-            0 => start_put(self.message, e, own),
-            1 => start_get(e, own),
-            2 => work(e, own),
-            3 => signal(e, own),
-            4 => receive(e, own),
-            5 => hear(true, e, own),
-            6 => hear(false, e, own),
-            7 => put(e, own),
-            _ => becomes(Outcome::Idle, e, own),
+        let row = row_of(code % 8);
+        let next = Record {
+            word: (own.word & (0xFFFF_FFFF_FFFF_FFFF - row.off))
+                + row.on
+                + self.message as u64 * 0x1_0000_0000,
+        };
+        if code == 7 {
+            return put::put_at(becomes(Outcome::Moved, header, next, row.started));
         }
+        if code == 2 {
+            return work(header, next);
+        }
+        becomes(Outcome::Moved, header, next, row.started)
     }
-}
-
-// Internal: a neighbour's record, with requests on the link from its right.
-pub fn requested(asks: Pair, p: Process) -> Process
-    ensures { λ r. ⌜ r ≡ rule.requested asks p ⌝ }
-{
-    let link = p.link;
-    let both = Pair {
-        full: link.full | asks.full,
-        empty: link.empty | asks.empty,
-    };
-    let mut q = p;
-    q.link = both;
-    q
-}
-
-// Internal: a neighbour's record, with the envelope arriving from its left.
-pub fn arrived(p: Process) -> Process
-    ensures { λ r. ⌜ r ≡ rule.arrived true p ⌝ }
-{
-    let mut q = p;
-    q.arriving = true;
-    q
 }

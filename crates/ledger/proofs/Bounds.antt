@@ -1,12 +1,16 @@
 -- One event more adds at most one to each count, so a bound on all of them goes up by at most one. Assumes nothing.
 use Prim.Native.Nat.{ℕ, _+_, _≤_}
 use mathlib.Core.Bool.{Bool, not, _&&_}
+use mathlib.Core.List.{List, [], _∷_}
 use native.Mathlib.Omega.{arith}
+use lib.ListN.{length}
 use lib.Dec.{eqb}
 use Rattle.machine.specs.declared.Counts.{Counts}
 use Rattle.machine.specs.declared.Outcome.{Outcome}
 use Rattle.machine.specs.Bytes.{bit}
-use Rattle.machine.specs.Run.{outcomeNumber, recorded, noCounts, counted}
+use Rattle.machine.specs.Image.{State}
+use Rattle.machine.specs.Events.{Event, outcome, apply}
+use Rattle.machine.specs.Run.{outcomeNumber, recorded, noCounts, counted, countsFrom}
 use Rattle.machine.proofs.Bits.{bit-le}
 use Rattle.ledger.specs.Bounds.{NoneAbove}
 
@@ -54,3 +58,11 @@ counted-above code o b =
       idle = one-more (eqb number 0) (b .idle);
       records = one-more (recorded o) (b .records);
     }
+
+-- no count is above the number of events
+pub counts-few : (vs : List Event) (st : State) (k : ℕ) {c : Counts} → NoneAbove k c
+    → NoneAbove (k + length vs) (countsFrom c st vs)
+unfolding countsFrom
+counts-few [] st k above = none-above-le (omega arith) above
+counts-few (v ∷ vs) st k above =
+    none-above-le (omega arith) (counts-few vs (apply st v) (k + 1) (counted-above (v .code) (outcome st v) above))

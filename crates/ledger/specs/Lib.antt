@@ -1,4 +1,3 @@
--- What this crate's contracts cite beside the rules.
+-- What this crate's contracts and its callers' cite beside the rules.
 pub mod Bounds
 pub mod Record
-pub mod Idle

@@ -1,17 +1,13 @@
-// A run's ledger, which is its trace, and its counts. Document 01, "The run".
+// A run's ledger, which is its trace. Document 01, "The run".
 use event::Event;
-use machine::Counts;
 use machine::Outcome;
 use record::byte::put_four;
 use record::byte::put_number;
 ghost use mathlib.Core.Path.{_≡_};
 ghost use Prim.Native.Nat.{_+_, _≤_, _<_};
 ghost use lib.ListN.{length};
-ghost use Rattle.machine.specs.Bytes.{bit as digitOf, splice};
-ghost use Rattle.machine.specs.Run.{outcomeNumber, outcomeMessage, ledgerEntry, counted};
-ghost use Rattle.ledger.specs.Bounds.{NoneAbove};
-ghost use Rattle.machine.specs.declared.Outcome.the-variants.{Moved};
-ghost use Rattle.ledger.specs.Idle.{OneIdle};
+ghost use Rattle.machine.specs.Bytes.{splice};
+ghost use Rattle.machine.specs.Run.{outcomeNumber, outcomeMessage, ledgerEntry};
 ghost use Rattle.ledger.specs.Record.{recordOf, enteredIn};
 
 // Internal: an outcome's number, 0 to 5; of fill, take, sent and got it is the ledger's code.
@@ -68,59 +64,4 @@ pub fn enter(ledger: &mut [u8], at: usize, number: u32, event: Event, outcome: O
     }
     let message = outcome_message(outcome);
     put_record(ledger, at, number, event.process as u8, code, message);
-}
-
-// A bit as a number, to be added to a count.
-fn bit(b: bool) -> u64
-    ensures { λ r. ⌜ (r ≡ digitOf b) × (r ≤ 1) ⌝ }
-{
-    if b { 1 } else { 0 }
-}
-
-// Internal: the counts with one idle event more, whatever its code.
-pub fn count_idle(counts: Counts) -> Counts
-    requires { ⌜ NoneAbove 4294967295 counts ⌝ }
-    ensures { λ r. ⌜ OneIdle counts r ⌝ }
-{
-    let mut more = counts;
-    more.idle = counts.idle + 1;
-    more
-}
-
-// Internal: the counts with one event more that moved something and has no record.
-pub fn count_moved(counts: Counts, code: u8) -> Counts
-    requires { ⌜ NoneAbove 4294967295 counts ⌝ }
-    ensures { λ r. ⌜ r ≡ counted code Moved counts ⌝ }
-{
-    let mut more = counts;
-    match code {
-        0 => {
-            more.puts = counts.puts + 1;
-            more
-        }
-        1 => {
-            more.gets = counts.gets + 1;
-            more
-        }
-        _ => more,
-    }
-}
-
-// Internal: the counts with any event more, without a branch: an outcome with a record can't be foreseen.
-pub fn count(counts: Counts, code: u8, outcome: Outcome) -> Counts
-    requires { ⌜ NoneAbove 4294967295 counts ⌝ }
-    ensures { λ r. ⌜ r ≡ counted code outcome counts ⌝ }
-{
-    let number = outcome_number(outcome);
-    let moved = number != 0;
-    Counts {
-        puts: counts.puts + bit((code == 0) & moved),
-        gets: counts.gets + bit((code == 1) & moved),
-        fills: counts.fills + bit(number == 2),
-        takes: counts.takes + bit(number == 3),
-        sent: counts.sent + bit(number == 4),
-        got: counts.got + bit(number == 5),
-        idle: counts.idle + bit(number == 0),
-        records: counts.records + bit(2 <= number),
-    }
 }

@@ -1,13 +1,13 @@
 -- Laws of verdicts: what an accepted input is known to have, and each way in which an image or a fresh ring is refused.
 -- Assumes nothing.
 use Prim.Native.Nat.{ℕ, _+_, _*_, _≤_, _<_}
-use mathlib.Core.Path.{_≡_, refl}
-use mathlib.Core.Bool.{Bool, true, false, _&&_}
+use mathlib.Core.Path.{_≡_, refl, sym, _∙_}
+use mathlib.Core.Bool.{Bool, true, false, _&&_, _||_}
 use mathlib.Core.List.{List}
 use native.Mathlib.Omega.{arith}
 use lib.ListN.{length, getD}
 use lib.Dec.{eqb, leb, ltb, lit≤}
-use borrow.Author.Tests.{leb-true, ltb-true, le-leb, lt-leb, lt-ltb, le-ltb}
+use borrow.Author.Tests.{eqb-true, ne-eqb, leb-true, ltb-true, le-leb, lt-leb, lt-ltb, le-ltb}
 use Rattle.machine.specs.declared.Refusal.{Refusal}
 use Rattle.machine.specs.declared.Refusal.the-variants as refusal
 use Rattle.machine.specs.declared.Verdict.{Verdict}
@@ -15,11 +15,12 @@ use Rattle.machine.specs.declared.Verdict.the-variants.{Fine, Refused}
 use Rattle.machine.specs.Ring.{sizeFits, imageLength}
 use Rattle.machine.specs.Image.{sizeIn}
 use Rattle.machine.specs.Sound.{sound}
-use Rattle.machine.specs.Bytes.{zeros}
+use Rattle.machine.specs.Bytes.{number, zeros}
 use Rattle.machine.specs.Tape.{eventIn}
 use Rattle.machine.specs.Refusals.{numberOf, unless, orElse, sizeVerdict, homeVerdict, roomVerdict, imageVerdict}
 use Rattle.machine.specs.Refusals.{codes, eventFits, eventVerdict}
 use Rattle.machine.specs.Answers.{freshVerdict}
+use Rattle.machine.proofs.Bytes.{zeros-number}
 use Rattle.machine.proofs.Lists.{and-first, and-second}
 
 -- every refusal's number is 1 to 10
@@ -139,16 +140,27 @@ fits-code codes n s at fits =
     ltb-true (getD s (at + 1) 0) codes
     (and-second process code (and-first (process && code) spare (and-first (process && code && spare) _ fits)))
 
--- the same of an accepted one
-accepted-fits : (n : ℕ) (s : List ℕ) → eventVerdict codes n s ≡ Fine → eventFits codes n s 0 ≡ true
-unfolding eventVerdict
-accepted-fits n s e =
-    let fits = eventFits codes n s 0 in
-    and-second (eqb (length s) 8) fits (unless-fine (eqb (length s) 8 && fits) (refusal.Event 0) e)
+-- and no message unless its code is 0
+pub fits-silent : (codes n : ℕ) (s : List ℕ) (at : ℕ) → eventFits codes n s at ≡ true → (getD s (at + 1) 0 ≡ 0 → ⊥)
+    → number s (at + 4) 4 ≡ 0
+unfolding eventFits
+fits-silent codes n s at fits other =
+    let code = getD s (at + 1) 0 in
+    let before = ltb (getD s at 0) n && ltb code codes && zeros s (at + 2) 2 in
+    let none = and-second before (eqb code 0 || zeros s (at + 4) 4) fits in
+    eqb-true (number s (at + 4) 4) 0 (sym (zeros-number s (at + 4) 4) ∙ (rw (ne-eqb code 0 other) at none))
 
-pub event-code : (n : ℕ) (s : List ℕ) → eventVerdict codes n s ≡ Fine → eventIn s 0 .code < codes
-unfolding eventIn
-event-code n s e = fits-code codes n s 0 (accepted-fits n s e)
+-- an accepted event is 8 bytes, and fits
+module _ (n : ℕ) (s : List ℕ) (fine : eventVerdict codes n s ≡ Fine) where
+  accepted : eqb (length s) 8 && eventFits codes n s 0 ≡ true
+  unfolding eventVerdict
+  accepted = unless-fine (eqb (length s) 8 && eventFits codes n s 0) (refusal.Event 0) fine
+
+  pub accepted-long : length s ≡ 8
+  accepted-long = eqb-true (length s) 8 (and-first (eqb (length s) 8) (eventFits codes n s 0) accepted)
+
+  pub accepted-fits : eventFits codes n s 0 ≡ true
+  accepted-fits = and-second (eqb (length s) 8) (eventFits codes n s 0) accepted
 
 pub event-below : (n : ℕ) (s : List ℕ) → eventVerdict codes n s ≡ Fine → eventIn s 0 .process < n
 unfolding eventIn

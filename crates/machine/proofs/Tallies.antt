@@ -58,6 +58,14 @@ module _ (vs : List Event) (st : State) (c : Counts) where
   unfolding counted
   gets-add = add (λ x. x .gets) (starts 1) refl (λ _ _ _. refl) vs st c
 
+  pub fills-add : countsFrom c st vs .fills ≡ c .fills + own .fills
+  unfolding counted
+  fills-add = add (λ x. x .fills) (has 2) refl (λ _ _ _. refl) vs st c
+
+  pub takes-add : countsFrom c st vs .takes ≡ c .takes + own .takes
+  unfolding counted
+  takes-add = add (λ x. x .takes) (has 3) refl (λ _ _ _. refl) vs st c
+
   pub sent-add : countsFrom c st vs .sent ≡ c .sent + own .sent
   unfolding counted
   sent-add = add (λ x. x .sent) (has 4) refl (λ _ _ _. refl) vs st c
@@ -65,6 +73,10 @@ module _ (vs : List Event) (st : State) (c : Counts) where
   pub got-add : countsFrom c st vs .got ≡ c .got + own .got
   unfolding counted
   got-add = add (λ x. x .got) (has 5) refl (λ _ _ _. refl) vs st c
+
+  pub idle-add : countsFrom c st vs .idle ≡ c .idle + own .idle
+  unfolding counted
+  idle-add = add (λ x. x .idle) (has 0) refl (λ _ _ _. refl) vs st c
 
   pub records-add : countsFrom c st vs .records ≡ c .records + own .records
   unfolding counted

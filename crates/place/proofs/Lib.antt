@@ -1,3 +1,3 @@
 -- Laws that the functions of this crate cite.
-pub mod Ways
 pub mod Written
+pub mod Ways

@@ -1,48 +1,184 @@
--- Each way through the writing of a reaction is that way through its definition. What was read, made and written is a
--- variable here, each with the value that it is known to be. Assumes nothing.
-use Prim.Native.Nat.{ℕ}
-use mathlib.Core.Path.{_≡_, _∙_}
-use mathlib.Core.Bool.{Bool, true, false, not, _||_}
+-- Each way through an event on an image: one that isn't possible is idle and leaves the image as it is; any other is the rule's
+-- reaction at its process, placed. What lower functions answered is a variable here, with the value that it is known to be.
+-- Assumes nothing.
+use Prim.Native.Nat.{ℕ, _+_, _*_, _%_, _≤_, _<_}
+use mathlib.Core.Path.{_≡_, refl, sym, ap, subst, _∙_}
+use mathlib.Core.Bool.{Bool, true, false, not, _&&_, true≢false}
 use mathlib.Core.List.{List}
+use native.Mathlib.Omega.{arith}
+use lib.Dec.{eqb}
 use borrow.Author.Tests.{not-true, not-false}
-use Rattle.machine.specs.declared.Pair.{Pair}
+use Rattle.machine.specs.declared.Envelope.{Envelope}
 use Rattle.machine.specs.declared.Process.{Process}
-use Rattle.machine.specs.declared.Reaction.{Reaction}
-use Rattle.machine.specs.Ring.{left, right}
-use Rattle.machine.specs.Image.{processIn, withProcess, withEnvelope}
-use Rattle.machine.specs.Events.{requested, arrived}
-use Rattle.place.specs.Placed.{requestedIn, arrivedIn, placedIn}
+use Rattle.machine.specs.declared.Outcome.{Outcome}
+use Rattle.machine.specs.declared.Outcome.the-variants.{Idle, Moved, Fill, Take, Sent, Got}
+use Rattle.machine.specs.declared.Reaction as rule-reaction
+use Rattle.machine.specs.Bytes.{Bytes, bit, number}
+use Rattle.machine.specs.Ring.{recordAt}
+use Rattle.machine.specs.Image.{sizeIn, stateIn, imageWith}
+use Rattle.machine.specs.Events as rule
+use Rattle.machine.specs.Run.{outcomeNumber}
+use Rattle.machine.specs.Stopped.{isIdle}
+use Rattle.machine.proofs.Rewrite.{rewrite-image}
+use Rattle.machine.proofs.Refusals.{image-fine}
+use Rattle.machine.proofs.Sound.{sound-facts}
+use Rattle.machine.proofs.Stored.{read-at, read-envelope-at}
+use Rattle.machine.proofs.Idle.{idle-keeps}
+use Rattle.machine.proofs.Stopped.{idle-is}
+use Rattle.machine.proofs.Sums.{marked-small, marked-counted}
+use Rattle.record.specs.declared.process.Record.{Record}
+use Rattle.record.specs.declared.header.Header.{Header}
+use Rattle.record.specs.Words.{stageOf, shownProcess, shownEnvelope, Tidy}
+use Rattle.record.proofs.Images.{Read, sound-read, header-shows, header-tidy, header-size}
+use Rattle.event.specs.declared.Event.{Event}
+use Rattle.event.specs.declared.Reaction.{Reaction}
+use Rattle.event.specs.Parsed.{ruled}
+use Rattle.event.specs.Rows.{Possible, rowOf}
+use Rattle.event.specs.Reaction.{shown, Ruled, Applicable, Reacts}
+use Rattle.event.proofs.Codes.{by-code}
+use Rattle.place.specs.declared.Done.{Done}
+use Rattle.place.specs.Performed.{Placeable, placed, Performable, startedAs, Performed}
 
--- ---- a neighbour
+-- ---- what counts as started
 
-module _ (s : List ℕ) (k : ℕ) where
-  pub request-none : (asks : Pair) → not (asks .full || asks .empty) ≡ true → s ≡ requestedIn s k asks
-  unfolding requestedIn
-  request-none asks h = rw (not-true (asks .full || asks .empty) h)
+-- nothing of an idle event
+idle-starts : (code : ℕ) → 0 ≡ startedAs code Idle
+idle-starts code = go (eqb code 0) (eqb code 1)
+  where
+    go : (a b : Bool) → 0 ≡ 281474976710656 * bit (a && false) + 72057594037927936 * bit (b && false)
+    go true true = refl
+    go true false = refl
+    go false true = refl
+    go false false = refl
 
-  pub request-some : (asks : Pair) {p q : Process} {t : List ℕ} → not (asks .full || asks .empty) ≡ false
-      → p ≡ processIn s k → q ≡ requested asks p → t ≡ withProcess s k q
-      → t ≡ requestedIn s k asks
-  unfolding requestedIn
-  request-some asks h read new wrote = wrote ∙ rw (not-false (asks .full || asks .empty) h, new, read)
+some-number : (o : Outcome) → isIdle o ≡ false → eqb (outcomeNumber o) 0 ≡ false
+some-number Idle h = absurd (true≢false h)
+some-number Moved h = refl
+some-number (Fill m) h = refl
+some-number (Take m) h = refl
+some-number Sent h = refl
+some-number Got h = refl
 
-  pub arrive-none : (leaves : Bool) → not leaves ≡ true → s ≡ arrivedIn s k leaves
-  unfolding arrivedIn
-  arrive-none leaves h = rw (not-true leaves h)
+-- of any other what its row says
+row-starts : (code : ℕ) (o : Outcome) → code < 8 → isIdle o ≡ false → rowOf code .started ≡ startedAs code o
+unfolding rowOf
+row-starts code o few moves =
+    rw (some-number o moves)
+    (by-code (λ k. rowOf k .started
+    ≡ 281474976710656 * bit (eqb k 0 && true) + 72057594037927936 * bit (eqb k 1 && true)) refl refl refl refl refl refl
+    refl refl code few)
 
-  pub arrive-some : (leaves : Bool) {p q : Process} {t : List ℕ} → not leaves ≡ false
-      → p ≡ processIn s k → q ≡ arrived true p → t ≡ withProcess s k q
-      → t ≡ arrivedIn s k leaves
-  unfolding arrivedIn
-  arrive-some leaves h read new wrote = wrote ∙ rw (not-false leaves h, new, read)
+-- ---- an event
 
--- ---- the whole reaction
+module _ {s : List ℕ} (small : Bytes s) {event : Event} (ready : Performable s event) {own : Record}
+    (read : own .word ≡ number s (recordAt (event .process)) 8) where
+  abbrev i : ℕ
+  i = event .process
 
--- the four writes, one after the other
-pub place-done : (s : List ℕ) (n i : ℕ) (r : Reaction) {at-left at-right : ℕ} {one two three four : List ℕ}
-    → one ≡ withProcess s i (r .process) → two ≡ withEnvelope one (r .envelope)
-    → at-left ≡ left n i → three ≡ requestedIn two at-left (r .asks)
-    → at-right ≡ right n i → four ≡ arrivedIn three at-right (r .leaves)
-    → four ≡ placedIn s n i r
-unfolding placedIn
-place-done s n i r first second l third k fourth = fourth ∙ rw (third, second, first, l, k)
+  -- the record that stands there
+  abbrev found : Process
+  found = rule.processAt (stateIn s .processes) i
+
+  here : Read (own .word) found
+  here = rw read (sound-read s i (ready .fine) small (ready .below))
+
+  low : stageOf (own .word) ≤ 10
+  low =
+      let stage = ap (λ (p : Process). p .stage) (here .is ∙ sym (read-at s i (ready .below))) in
+      rw stage (sound-facts s (image-fine s (ready .fine) .fits) .records i (ready .below) .stage)
+
+  pub may-test : (event .code < 8) × Tidy (own .word) × (stageOf (own .word) ≤ 10)
+  may-test = (ready .code, here .tidy, low)
+
+  -- whether the event does something, by the test
+  said-by : {b : Bool} → Possible (event .code) (own .word) b
+      → b ≡ not (isIdle (rule.outcome (stateIn s) (ruled event)))
+  unfolding rule.outcome rule.reaction
+  said-by {b} test =
+      subst (λ (p : Process).
+      b ≡ not (isIdle (rule.react (event .code) (event .message) (stateIn s .envelope) p .outcome))) (here .is)
+      (test (event .message) (stateIn s .envelope))
+
+  pub idle-done : {b : Bool} → Possible (event .code) (own .word) b → not b ≡ true
+      → Performed s event (record { outcome = Idle; started = 0 })
+      × (s ≡ imageWith s (rule.apply (stateIn s) (ruled event)))
+  idle-done {b} test off =
+      let image = image-fine s (ready .fine) in
+      let idle : isIdle (rule.outcome (stateIn s) (ruled event)) ≡ true =
+      not-false _ (sym (said-by test) ∙ not-true b off) in (
+        record { said = sym (idle-is (rule.outcome (stateIn s) (ruled event)) idle); counts = idle-starts (event .code) },
+        sym (rewrite-image s (image .room) small (image .fits))
+            ∙ ap (imageWith s) (sym (idle-keeps (stateIn s) (ruled event) idle)),
+      )
+
+  -- ---- one that is possible
+
+  module _ {b : Bool} (test : Possible (event .code) (own .word) b) (yes : not b ≡ false) {header : Header}
+      (head : (header .word ≡ number s 0 8) × (header .message ≡ number s 8 8)) where
+    moves : isIdle (rule.outcome (stateIn s) (ruled event)) ≡ false
+    moves = not-true _ (sym (said-by test) ∙ not-false b yes)
+
+    header-is : header ≡ record { word = number s 0 8; message = number s 8 8 }
+    header-is = λ i. record { word = head .0 i; message = head .1 i }
+
+    envelope-is : shownEnvelope header ≡ stateIn s .envelope
+    envelope-is = ap shownEnvelope header-is ∙ header-shows s (ready .fine) small ∙ read-envelope-at s
+
+    -- the rule's reaction, as the words show what it is of
+    reaction-is : rule.react (event .code) (event .message) (shownEnvelope header) (shownProcess (own .word))
+        ≡ rule.reaction (stateIn s) (ruled event)
+    unfolding rule.reaction
+    reaction-is =
+        ap (λ (e : Envelope). rule.react (event .code) (event .message) e (shownProcess (own .word))) envelope-is
+        ∙ ap (rule.react (event .code) (event .message) (stateIn s .envelope)) (here .is)
+
+    pub may-apply : Applicable event header own
+    unfolding rule.outcome
+    may-apply =
+        record {
+          code = ready .code;
+          message = ready .message;
+          silent = ready .silent;
+          stage = low;
+          tidy = here .tidy;
+          header-tidy = rw header-is (header-tidy s (ready .fine) small);
+          ready =
+              rw (envelope-is, here .is)
+              (record {
+                room = λ t. omega (arith, marked-small s (ready .fine) t);
+                counted = λ t. marked-counted s (ready .fine) i (ready .below) t;
+              });
+          moves = ap (λ (x : Ruled). isIdle (x .outcome)) reaction-is ∙ moves;
+        }
+
+    module _ {r : Reaction}
+        (reacts : Reacts (rule.react (event .code) (event .message) (shownEnvelope header) (shownProcess (own .word))) header
+        (rowOf (event .code) .started) r) {n : ℕ} (size : n ≡ header .word % 256) where
+      n-is : header .word % 256 ≡ sizeIn s
+      n-is = rw (head .0) (header-size s (ready .fine) small)
+
+      pub may-place : Placeable s n i r
+      may-place =
+          record {
+            fine = ready .fine;
+            size = size ∙ n-is;
+            below = omega (arith, ready .below, size, n-is);
+            fits = reacts .fits;
+            kept = reacts .size ∙ n-is;
+          }
+
+      pub moved-done : {t : List ℕ} → t ≡ imageWith s (placed s i r)
+          → Performed s event (record { outcome = r .outcome; started = r .started })
+          × (t ≡ imageWith s (rule.apply (stateIn s) (ruled event)))
+      unfolding rule.outcome rule.apply
+      moved-done wrote =
+          let same : shown r ≡ rule.reaction (stateIn s) (ruled event) = reacts .shows ∙ reaction-is in
+          let said : r .outcome ≡ rule.outcome (stateIn s) (ruled event) = ap (λ (x : Ruled). x .outcome) same in (
+            record {
+              said = said;
+              counts = reacts .counts ∙ row-starts (event .code) (r .outcome) (ready .code) (ap isIdle said ∙ moves);
+            },
+            wrote
+                ∙ ap (λ (x : Ruled). imageWith s
+                (record { envelope = x .envelope; processes = rule.place (stateIn s .processes) i x })) same,
+          )

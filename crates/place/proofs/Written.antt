@@ -1,125 +1,198 @@
--- A reaction written into a sound image: own record, header, left's link, right's arriving flag, one after the other,
--- are the rule's one. A neighbour is another process, so what is read of it is what stood there. Assumes nothing.
-use Prim.Native.Nat.{ℕ, _^_, _<_}
-use mathlib.Core.Path.{_≡_, refl, ap, _∙_}
-use mathlib.Core.Bool.{Bool, true, false, _||_, true≢false, or-false}
-use mathlib.Core.List.{List}
+-- A reaction written into a sound image: own record, header, then the neighbour that it reaches, one after the other, are the
+-- rule's one. A neighbour is another process, so what is read of it is what stood there. Assumes nothing.
+use Prim.Native.Nat.{ℕ, _+_, _*_, _%_, _^_, _≤_, _<_}
+use mathlib.Core.Path.{_≡_, refl, sym, ap, subst, _∙_}
+use mathlib.Core.Bool.{Bool, true, false}
+use mathlib.Core.List.{List, _++_}
 use native.Mathlib.Omega.{arith}
 use lib.ListN.{length, set, length-set}
-use lib.Seq.{getD-set-same, getD-set-other}
-use lib.Dec.{eqb}
-use borrow.Author.Tests.{eqb-true, eqb-false}
+use lib.Seq.{getD-set-other}
+use lib.Bits.{bitOr}
 use Rattle.machine.specs.declared.Pair.{Pair}
+use Rattle.machine.specs.declared.Envelope.{Envelope}
 use Rattle.machine.specs.declared.Process.{Process}
-use Rattle.machine.specs.declared.Reaction.{Reaction}
 use Rattle.machine.specs.declared.Verdict.the-variants.{Fine}
-use Rattle.machine.specs.Ring.{left, right}
-use Rattle.machine.specs.Fields.{blank}
-use Rattle.machine.specs.Image.{State, processIn, sizeIn, stateIn, imageWith, withProcess, withEnvelope}
+use Rattle.machine.specs.Bytes.{Bytes, number, bytes, splice}
+use Rattle.machine.specs.Ring.{left, right, recordAt}
+use Rattle.machine.specs.Fields.{none, blank}
+use Rattle.machine.specs.Image.{State, pairOf, processIn, sizeIn, stateIn, imageWith, withProcess, withEnvelope}
 use Rattle.machine.specs.Events.{requested, arrived, processAt, change, place}
 use Rattle.machine.specs.Refusals.{imageVerdict}
-use Rattle.machine.specs.Bytes.{Bytes}
-use Rattle.machine.proofs.Image.{replaced, enveloped, write-process, write-envelope}
-use Rattle.machine.proofs.Readback.{read-process}
+use Rattle.machine.proofs.Image.{replaced, enveloped, write-process, write-envelope, size-written}
 use Rattle.machine.proofs.Rewrite.{read-in-range}
+use Rattle.machine.proofs.Sound.{sound-facts}
 use Rattle.machine.proofs.Refusals.{image-fine}
 use Rattle.machine.proofs.Ring.{left-below, right-below, left-other, right-other}
-use Rattle.machine.proofs.Stored.{length-state, store-process}
-use Rattle.machine.proofs.Around.{no-arrival, length-change}
+use Rattle.machine.proofs.Stored.{length-state, store-process, read-at}
+use Rattle.machine.proofs.Around.{no-request, no-arrival}
 use Rattle.machine.proofs.Idle.{unchanged}
-use Rattle.place.specs.Placed.{requestedIn, arrivedIn, placedIn}
-
--- ---- one neighbour
-
-neither : (a b : Bool) → a || b ≡ false → (a ≡ false) × (b ≡ false)
-neither true b e = absurd (true≢false e)
-neither false b e = (refl, e)
+use Rattle.record.specs.declared.header.Header.{Header}
+use Rattle.record.specs.Words.{shownProcess, shownEnvelope, Tidy, TidyHeader}
+use Rattle.record.proofs.Images.{Read, record-read, record-written, header-written}
+use Rattle.record.proofs.Neighbours.{requested-shown, arrived-shown}
+use Rattle.event.specs.declared.Reach.{Reach}
+use Rattle.event.specs.declared.Reach.the-variants.{Own, Left, Right}
+use Rattle.event.specs.declared.Reaction.{Reaction}
+use Rattle.event.specs.Reaction.{asksIn, leavesIn}
+use Rattle.place.specs.Performed.{Placeable, placed}
 
 -- the state with the record of process k changed
 abbrev changedAt : State → ℕ → (Process → Process) → State
 changedAt st k f = record { envelope = st .envelope; processes = change (st .processes) k f }
 
-module _ (s : List ℕ) (st : State) (k : ℕ) (below : k < length (st .processes))
-    (small : processAt (st .processes) k .note < 2 ^ 32) where
-  changed-written : (f : Process → Process)
-      → withProcess (imageWith s st) k (f (processIn (imageWith s st) k)) ≡ imageWith s (changedAt st k f)
+module _ {s : List ℕ} {n i : ℕ} {r : Reaction} (ready : Placeable s n i r) where
+  pub inside : i < sizeIn s
+  inside = omega (arith, ready .below, ready .size)
+
+  -- requests for no more than full and empty
+  pub few-asks : {asks : ℕ} → r .reach ≡ Left asks → asks < 4
+  few-asks is = subst (λ (x : Reach). asksIn x < 4) is (ready .fits .asks)
+
+  -- its record lies in the image
+  module _ {k : ℕ} where
+    pub left-in : k ≡ left n i → (k < 64) × (24 + 8 * k ≤ length s)
+    left-in at =
+        let image = image-fine s (ready .fine) in
+        let below : left n i < n = left-below n i (omega (arith, ready .size, image .size .least)) in
+        omega (arith, image .size .most, image .room, ready .size)
+
+    pub right-in : k ≡ right n i → (k < 64) × (24 + 8 * k ≤ length s)
+    right-in at =
+        let image = image-fine s (ready .fine) in
+        let below : right n i < n = right-below n i (omega (arith, ready .size, image .size .least)) in
+        omega (arith, image .size .most, image .room, ready .size)
+
+module _ (s : List ℕ) (small : Bytes s) {n i : ℕ} {r : Reaction} (ready : Placeable s n i r) where
+  -- the records of the ring
+  abbrev ring : List Process
+  ring = stateIn s .processes
+
+  -- the state with the own record and the envelope written
+  abbrev own : State
+  own = enveloped (replaced (stateIn s) i (shownProcess (r .own .word))) (shownEnvelope (r .header))
+
+  long : length (own .processes) ≡ sizeIn s
+  long = length-set ring i (shownProcess (r .own .word)) ∙ length-state s
+
+  -- both written
+  own-written : {t u : List ℕ} → t ≡ splice s (recordAt i) (bytes 8 (r .own .word))
+      → u ≡ splice t 0 (bytes 8 (r .header .word) ++ bytes 8 (r .header .message))
+      → u ≡ imageWith s own
+  own-written {t} {u} first second =
+      let image = image-fine s (ready .fine) in
+      let p = shownProcess (r .own .word) in
+      let st-one = replaced (stateIn s) i p in
+      let one : t ≡ imageWith s st-one =
+      first
+      ∙ record-written s i (r .own .word) (ready .fits .own)
+      ∙ store-process s (image .room) small (image .fits) i p (inside ready) in
+      let size : r .header .word % 256 ≡ sizeIn t = ready .kept ∙ sym (ap sizeIn one ∙ size-written s st-one ∙ long) in
+      second
+      ∙ header-written t (r .header) (ready .fits .header) size
+      ∙ ap (λ (x : List ℕ). withEnvelope x (shownEnvelope (r .header))) one
+      ∙ write-envelope s st-one (shownEnvelope (r .header))
+
+  -- ---- a neighbour
+
+  -- what is then read of another process
+  other-read : (k : ℕ) → k < sizeIn s → (k ≡ i → ⊥)
+      → Read (number (imageWith s own) (recordAt k) 8) (processAt (own .processes) k)
+  other-read k below other =
+      let same : processAt (own .processes) k ≡ processAt ring k =
+      getD-set-other ring i k (shownProcess (r .own .word)) blank other in
+      let facts = sound-facts s (image-fine s (ready .fine) .fits) .records k below in
+      let low : processAt ring k .stage ≤ 10 = rw (sym (read-at s k below)) (facts .stage) in
+      let note = read-in-range s small .notes k (omega (arith, length-state s)) in
+      record-read s own k (omega (arith, long)) (rw same (omega (arith, low))) (rw same note)
+
+  -- and written, changed
+  other-written : (k w : ℕ) (f : Process → Process) → k < sizeIn s → Read w (f (processAt (own .processes) k))
+      → splice (imageWith s own) (recordAt k) (bytes 8 w) ≡ imageWith s (changedAt own k f)
   unfolding change
-  changed-written f =
-      ap (λ p. withProcess (imageWith s st) k (f p)) (read-process s st k below small)
-      ∙ write-process s st k (f (processAt (st .processes) k)) below
+  other-written k w f below new =
+      record-written (imageWith s own) k w (new .tidy)
+      ∙ ap (withProcess (imageWith s own) k) (new .is)
+      ∙ write-process s own k (f (processAt (own .processes) k)) (omega (arith, long))
 
-  requested-written : (asks : Pair)
-      → requestedIn (imageWith s st) k asks ≡ imageWith s (changedAt st k (requested asks))
-  unfolding requestedIn
-  requested-written asks = by-asks (asks .full || asks .empty) refl
-    where
-      by-asks : (t : Bool) → asks .full || asks .empty ≡ t
-          → requestedIn (imageWith s st) k asks ≡ imageWith s (changedAt st k (requested asks))
-      by-asks true e = rw e (changed-written (requested asks))
-      by-asks false e =
-          let off = neither (asks .full) (asks .empty) e in
-          let p = processAt (st .processes) k in
-          let same : requested asks p ≡ p =
-          rw (off .0, off .1, or-false (p .link .full), or-false (p .link .empty)) in
-          rw (e, unchanged (st .processes) k (requested asks) same)
+  -- ---- the whole reaction
 
-  arrived-written : (leaves : Bool)
-      → arrivedIn (imageWith s st) k leaves ≡ imageWith s (changedAt st k (arrived leaves))
-  unfolding arrivedIn
-  arrived-written true = changed-written (arrived true)
-  arrived-written false =
-      rw (unchanged (st .processes) k (arrived false) (no-arrival (processAt (st .processes) k)))
+  -- what the rule places, by what goes to the neighbours
+  abbrev placedBy : Pair → Bool → State
+  placedBy asks leaves =
+      record {
+        envelope = shownEnvelope (r .header);
+        processes =
+            change (change (own .processes) (left (length ring) i) (requested asks)) (right (length ring) i) (arrived leaves);
+      }
 
--- ---- notes of the neighbours
+  -- nothing asked, and nothing that leaves
+  unasked : change (own .processes) (left (length ring) i) (requested (pairOf 0 0)) ≡ own .processes
+  unasked = unchanged (own .processes) (left (length ring) i) (requested (pairOf 0 0)) (no-request _)
 
--- requests change no note
-note-requested : (l : List Process) (k m : ℕ) (asks : Pair) → k < length l
-    → processAt (change l k (requested asks)) m .note ≡ processAt l m .note
-unfolding change
-note-requested l k m asks h = by-place (eqb m k) refl
-  where
-    new : Process
-    new = requested asks (processAt l k)
+  stays : (l : List Process) → change l (right (length ring) i) (arrived false) ≡ l
+  stays l = unchanged l (right (length ring) i) (arrived false) (no-arrival _)
 
-    by-place : (t : Bool) → eqb m k ≡ t → processAt (set l k new) m .note ≡ processAt l m .note
-    by-place true e = rw (eqb-true m k e, getD-set-same l k new blank h)
-    by-place false e = ap (λ p. p .note) (getD-set-other l k m new blank (eqb-false m k e))
+  module _ {t u : List ℕ} (first : t ≡ splice s (recordAt i) (bytes 8 (r .own .word)))
+      (second : u ≡ splice t 0 (bytes 8 (r .header .word) ++ bytes 8 (r .header .message))) where
+    at-n : n ≡ length ring
+    at-n = ready .size ∙ sym (length-state s)
 
--- ---- the whole reaction
+    least : 2 ≤ sizeIn s
+    least = image-fine s (ready .fine) .size .least
 
-pub placed-written : (s : List ℕ) (i : ℕ) (r : Reaction) → imageVerdict s ≡ Fine → Bytes s → i < sizeIn s
-    → placedIn s (sizeIn s) i r
-    ≡ imageWith s (record { envelope = r .envelope; processes = place (stateIn s .processes) i r })
-unfolding placedIn place
-placed-written s i r fine small below =
-    let st = stateIn s in
-    let l = st .processes in
-    let n = sizeIn s in
-    let long : length l ≡ n = length-state s in
-    let image = image-fine s fine in
-    let own = set l i (r .process) in
-    let long-own : length own ≡ n = length-set l i (r .process) ∙ long in
-    let at-left = left n i in
-    let at-right = right n i in
-    let left-in : at-left < n = left-below n i (omega (arith, image .size .least)) in
-    let right-in : at-right < n = right-below n i (omega (arith, image .size .least)) in
-    let asked = change own at-left (requested (r .asks)) in
-    let note : (k : ℕ) → k < n → (k ≡ i → ⊥) → processAt own k .note < 2 ^ 32 =
-    λ k h other. rw (getD-set-other l i k (r .process) blank other)
-    (read-in-range s small .notes k (omega (arith, long))) in
-    let left-note = note at-left left-in (left-other n i (image .size .least) below) in
-    let right-note : processAt asked at-right .note < 2 ^ 32 =
-    rw (note-requested own at-left at-right (r .asks) (omega (arith, long-own)))
-    (note at-right right-in (right-other n i (image .size .least) below)) in
-    let st-one = replaced st i (r .process) in
-    let st-two = enveloped st-one (r .envelope) in
-    let st-three = changedAt st-two at-left (requested (r .asks)) in
-    let one-is = store-process s (image .room) small (image .fits) i (r .process) below in
-    let two-is = ap (λ t. withEnvelope t (r .envelope)) one-is ∙ write-envelope s st-one (r .envelope) in
-    let three-is =
-    ap (λ t. requestedIn t at-left (r .asks)) two-is
-    ∙ requested-written s st-two at-left (omega (arith, long-own)) left-note (r .asks) in
-    ap (λ t. arrivedIn t at-right (r .leaves)) three-is
-    ∙ arrived-written s st-three at-right (omega (arith, long-own, length-change own at-left (requested (r .asks))))
-    right-note (r .leaves)
-    ∙ rw long
+    wrote-own : u ≡ imageWith s (placedBy (pairOf 0 0) false)
+    wrote-own = own-written first second ∙ rw (unasked, stays (own .processes))
+
+    wrote-left : (asks : ℕ) {k : ℕ} {v : List ℕ} → asks < 4 → k ≡ left n i
+        → v ≡ splice u (recordAt k) (bytes 8 (bitOr (number u (recordAt k) 8) (asks * 4194304)))
+        → v ≡ imageWith s (placedBy (pairOf asks 0) false)
+    wrote-left asks {k} few at third =
+        let below : left (sizeIn s) i < sizeIn s = left-below (sizeIn s) i (omega (arith, least)) in
+        let other = left-other (sizeIn s) i least (inside ready) in
+        let here : k ≡ left (sizeIn s) i = at ∙ ap (λ m. left m i) (ready .size) in
+        let read = other-read k (rw here below) (rw here other) in
+        let w = number (imageWith s own) (recordAt k) 8 in
+        let new = requested-shown w (read .tidy) asks few in
+        third
+        ∙ ap (λ (x : List ℕ). splice x (recordAt k) (bytes 8 (bitOr (number x (recordAt k) 8) (asks * 4194304))))
+        (own-written first second)
+        ∙ other-written k (bitOr w (asks * 4194304)) (requested (pairOf asks 0)) (rw here below)
+        (record { is = new .is ∙ ap (requested (pairOf asks 0)) (read .is); tidy = new .tidy })
+        ∙ rw (at, at-n, stays (change (own .processes) (left (length ring) i) (requested (pairOf asks 0))))
+
+    wrote-right : {k : ℕ} {v : List ℕ} → k ≡ right n i
+        → v ≡ splice u (recordAt k) (bytes 8 (bitOr (number u (recordAt k) 8) 512))
+        → v ≡ imageWith s (placedBy (pairOf 0 0) true)
+    wrote-right {k} at third =
+        let below : right (sizeIn s) i < sizeIn s = right-below (sizeIn s) i (omega (arith, least)) in
+        let other = right-other (sizeIn s) i least (inside ready) in
+        let here : k ≡ right (sizeIn s) i = at ∙ ap (λ m. right m i) (ready .size) in
+        let read = other-read k (rw here below) (rw here other) in
+        let w = number (imageWith s own) (recordAt k) 8 in
+        let new = arrived-shown w (read .tidy) in
+        third
+        ∙ ap (λ (x : List ℕ). splice x (recordAt k) (bytes 8 (bitOr (number x (recordAt k) 8) 512)))
+        (own-written first second)
+        ∙ other-written k (bitOr w 512) (arrived true) (rw here below)
+        (record { is = new .is ∙ ap (arrived true) (read .is); tidy = new .tidy })
+        ∙ rw (at, at-n, unasked)
+
+    -- what is written, by the neighbour that is reached, is what the rule places
+    by-reach : {x : Reach} {v : List ℕ} → r .reach ≡ x → v ≡ imageWith s (placedBy (pairOf (asksIn x) 0) (leavesIn x))
+        → v ≡ imageWith s (placed s i r)
+    unfolding place
+    by-reach is wrote =
+        wrote ∙ ap (λ (x : Reach). imageWith s (placedBy (pairOf (asksIn x) 0) (leavesIn x))) (sym is)
+
+    pub placed-own : r .reach ≡ Own → u ≡ imageWith s (placed s i r)
+    placed-own is = by-reach is wrote-own
+
+    pub placed-left : {asks k : ℕ} {v : List ℕ} → r .reach ≡ Left asks → k ≡ left n i
+        → v ≡ splice u (recordAt k) (bytes 8 (bitOr (number u (recordAt k) 8) (asks * 4194304)))
+        → v ≡ imageWith s (placed s i r)
+    placed-left {asks} is at third = by-reach is (wrote-left asks (few-asks ready is) at third)
+
+    pub placed-right : {k : ℕ} {v : List ℕ} → r .reach ≡ Right → k ≡ right n i
+        → v ≡ splice u (recordAt k) (bytes 8 (bitOr (number u (recordAt k) 8) 512))
+        → v ≡ imageWith s (placed s i r)
+    placed-right is at third = by-reach is (wrote-right at third)

@@ -1,5 +1,3 @@
 -- Laws that the functions of this crate cite.
-pub mod Held
+pub mod Joined
 pub mod Going
-pub mod Ways
-pub mod Turns

@@ -1,29 +1,19 @@
 -- What must be known before the events of a tape are performed, and what a ledger then has. Assumes nothing.
-use Prim.Native.Nat.{ℕ, _≤_, _<_}
+use Prim.Native.Nat.{ℕ, _≤_}
 use mathlib.Core.Path.{_≡_}
 use mathlib.Core.List.{List}
 use lib.ListN.{length}
-use Rattle.machine.specs.declared.Counts.{Counts}
 use Rattle.machine.specs.declared.Verdict.the-variants.{Fine}
 use Rattle.machine.specs.Bytes.{splice}
 use Rattle.machine.specs.Image.{sizeIn}
 use Rattle.machine.specs.Refusals.{codes, imageVerdict, tapeVerdict}
-use Rattle.event.specs.declared.Event.{Event}
 use Rattle.blocks.specs.Counted.{eventsOn}
-use Rattle.ledger.specs.Bounds.{NoneAbove}
 
 -- both are accepted, and so many events are on the tape
 pub record Playable (image tape : List ℕ) (events : ℕ) : Type 0 where
   pub image-fine : imageVerdict image ≡ Fine
   pub tape-fine : tapeVerdict codes (sizeIn image) tape ≡ Fine
   pub counted : events ≡ eventsOn tape
-
--- an accepted image, one of the eight events at a process of it, and counts of no more events than a tape has
-pub record Turning (image : List ℕ) (event : Event) (counts : Counts) : Type 0 where
-  pub fine : imageVerdict image ≡ Fine
-  pub below : event .process < sizeIn image
-  pub code : event .code < 8
-  pub few : NoneAbove 4128768 counts
 
 -- a ledger that has room for records has them at its start, and its further bytes stay
 abbrev pub Recorded : List ℕ → List ℕ → List ℕ → Type 0

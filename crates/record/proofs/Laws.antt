@@ -1,77 +1,13 @@
--- The reads and writes of a record and of a header, as code makes them, are the rules'. Assumes nothing.
-use Prim.Native.Nat.{ℕ, _+_, _*_, _/_, _%_, _^_, _≤_, _<_}
-use mathlib.Core.Path.{_≡_, _∙_}
-use mathlib.Core.List.{List, [], _∷_, _++_, append-assoc}
+-- Eight bytes joined to one number, and a number written as eight bytes. Assumes nothing.
+use Prim.Native.Nat.{ℕ, zero, suc, _+_, _*_, _/_, _%_, _^_, _≤_, _<_}
+use mathlib.Core.Path.{_≡_, refl, ap, _∙_}
+use mathlib.Core.List.{List, _++_}
 use native.Mathlib.Omega.{arith}
-use lib.ListN.{length, getD, length-append}
+use lib.ListN.{length, getD}
 use lib.Bits.{bitOr, or-shifted-r}
-use lib.Pow.{shl-exact}
-use Rattle.machine.specs.declared.Envelope.{Envelope}
-use Rattle.machine.specs.declared.Process.{Process}
-use Rattle.machine.specs.Bytes.{bit, number, bytes, splice}
-use Rattle.machine.specs.Ring.{recordAt}
-use Rattle.machine.specs.Image.{pairBits, flagBits, requestBits, headerBytes, processBytes, withProcess, withEnvelope}
+use lib.Pow.{shl-exact, shr-shr, mod-mod-pow, field}
+use Rattle.machine.specs.Bytes.{number, bytes, splice}
 use Rattle.machine.proofs.Bytes.{number-4, number-8, length-bytes, splice-next}
-use Rattle.record.specs.Record.{recordBytesOf}
-
--- three bytes in one number are its bytes, and the fourth is 0
-three-bytes : (a b c : ℕ) → a < 256 → b < 256 → c < 256 → bytes 4 (a + 256 * b + 65536 * c) ≡ a ∷ b ∷ c ∷ 0 ∷ []
-unfolding bytes
-three-bytes a b c ha hb hc =
-    let n = a + 256 * b + 65536 * c in
-    let first : n % 256 ≡ a = omega arith in
-    let rest : n / 256 ≡ b + 256 * c = omega arith in
-    let second : (b + 256 * c) % 256 ≡ b = omega arith in
-    let last : (b + 256 * c) / 256 ≡ c = omega arith in
-    let third : c % 256 ≡ c = omega arith in
-    let none : c / 256 ≡ 0 = omega arith in
-    rw (first, rest, second, last, third, none)
-
--- these and the note, one after the other
-pub record-stores : (s : List ℕ) {t u : List ℕ} (i : ℕ) {stage flags requests : ℕ} (note : ℕ) {a b c : ℕ}
-    → 16 + 8 * i ≤ length s → a ≡ stage → b ≡ flags → c ≡ requests → stage < 256 → flags < 256 → requests < 256
-    → t ≡ splice s (16 + 8 * i) (bytes 4 (a + 256 * b + 65536 * c))
-    → u ≡ splice t (16 + 8 * i + 4) (bytes 4 note)
-    → u ≡ splice s (recordAt i) (recordBytesOf stage flags requests note)
-record-stores s i {stage} {flags} {requests} note room one two three low mid high first second =
-    second
-    ∙ rw (first, one, two, three, three-bytes stage flags requests low mid high)
-    (splice-next s (16 + 8 * i) (stage ∷ flags ∷ requests ∷ 0 ∷ []) (bytes 4 note) room)
-
-pub process-stores : (s : List ℕ) {t : List ℕ} (i : ℕ) {flags requests : ℕ} (p : Process)
-    → flags ≡ flagBits p → requests ≡ requestBits p
-    → t ≡ splice s (recordAt i) (recordBytesOf (p .stage) flags requests (p .note))
-    → t ≡ withProcess s i p
-unfolding withProcess processBytes
-process-stores s i p f r wrote = wrote ∙ rw (f, r)
-
-pub envelope-stores : (s : List ℕ) {t u v w : List ℕ} {full markers : ℕ} (e : Envelope)
-    → full ≡ bit (e .full) → markers ≡ pairBits (e .marker)
-    → t ≡ splice s 0 (getD s 0 0 ∷ full ∷ markers ∷ e .marked .full ∷ [])
-    → u ≡ splice t 4 (e .marked .empty ∷ 0 ∷ 0 ∷ 0 ∷ [])
-    → v ≡ splice u 8 (bytes 4 (e .message))
-    → w ≡ splice v 12 (0 ∷ 0 ∷ 0 ∷ 0 ∷ [])
-    → w ≡ withEnvelope s e
-unfolding withEnvelope headerBytes
-envelope-stores s e f m one two three four =
-    let a : List ℕ = getD s 0 0 ∷ bit (e .full) ∷ pairBits (e .marker) ∷ e .marked .full ∷ [] in
-    let b : List ℕ = e .marked .empty ∷ 0 ∷ 0 ∷ 0 ∷ [] in
-    let m4 = bytes 4 (e .message) in
-    let z : List ℕ = 0 ∷ 0 ∷ 0 ∷ 0 ∷ [] in
-    let long : 0 + length (a ++ b ++ m4) ≡ 12 = omega (arith, length-append (a ++ b) m4, length-bytes 4 (e .message)) in
-    four
-    ∙ rw (
-      three,
-      two,
-      one,
-      f,
-      m,
-      splice-next s 0 a b (omega arith),
-      splice-next s 0 (a ++ b) m4 (omega arith),
-      ← long,
-      splice-next s 0 (a ++ b ++ m4) z (omega arith),
-      append-assoc (a ++ b) m4 z,
-    )
 
 -- ---- eight bytes, joined
 
@@ -140,3 +76,43 @@ eight-joined s at {b0} {b1} {b2} {b3} {b4} {b5} {b6} {b7} w0 w1 w2 w3 w4 w5 w6 w
       ← w7 .0,
     )
     (omega arith)
+
+-- ---- a word written
+
+-- the lower bytes of a number are those of its remainder
+bytes-low : (width n : ℕ) → bytes width (n % 2 ^ (8 * width)) ≡ bytes width n
+unfolding bytes
+bytes-low zero n = refl
+bytes-low (suc width) n =
+    let wide : 8 * suc width ≡ 8 * width + 8 = omega arith in
+    rw (wide, mod-mod-pow n (8 * width) 8, field n (8 * width) 8, bytes-low width (n / 256))
+
+-- so a word is its lower and its upper half
+pub word-halves : (n : ℕ) → bytes 4 (n % 4294967296) ++ bytes 4 (n / 4294967296) ≡ bytes 8 n
+unfolding bytes
+word-halves n =
+    let two : n / 256 / 256 ≡ n / 65536 = shr-shr n 8 8 in
+    let three : n / 65536 / 256 ≡ n / 16777216 = shr-shr n 16 8 in
+    let four : n / 16777216 / 256 ≡ n / 4294967296 = shr-shr n 24 8 in
+    ap (λ (l : List ℕ). l ++ bytes 4 (n / 4294967296)) (bytes-low 4 n) ∙ rw (two, three, four)
+
+-- written one after the other
+pub word-stores : (s : List ℕ) {t u : List ℕ} (at n : ℕ) → at ≤ length s
+    → t ≡ splice s at (bytes 4 (n % 4294967296))
+    → u ≡ splice t (at + 4) (bytes 4 (n / 4294967296))
+    → u ≡ splice s at (bytes 8 n)
+word-stores s at n room first second =
+    let lower = bytes 4 (n % 4294967296) in
+    let there : at + 4 ≡ at + length lower = omega (arith, length-bytes 4 (n % 4294967296)) in
+    second ∙ rw (first, there, splice-next s at lower (bytes 4 (n / 4294967296)) room, word-halves n)
+
+-- two words, one after the other
+pub header-stores : (s : List ℕ) {t u : List ℕ} (first second : ℕ) → 0 ≤ length s → t ≡ splice s 0 (bytes 8 first)
+    → u ≡ splice t 8 (bytes 8 second)
+    → u ≡ splice s 0 (bytes 8 first ++ bytes 8 second)
+header-stores s first second room one two =
+    let there : 8 ≡ 0 + length (bytes 8 first) = omega (arith, length-bytes 8 first) in
+    two
+    ∙ ap (λ (l : List ℕ). splice l 8 (bytes 8 second)) one
+    ∙ ap (λ at. splice (splice s 0 (bytes 8 first)) at (bytes 8 second)) there
+    ∙ splice-next s 0 (bytes 8 first) (bytes 8 second) room

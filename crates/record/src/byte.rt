@@ -84,3 +84,12 @@ pub fn put_number(bytes: &mut [u8], at: usize, n: u32)
         (n / 16777216) as u8,
     );
 }
+
+// Internal: a number as eight bytes, lowest first, written.
+pub fn put_word(bytes: &mut [u8], at: usize, n: u64)
+    requires { ⌜ at + 8 ≤ length (now bytes) ⌝ }
+    ensures { λ _. ⌜ now (bytes .exit) ≡ splice (now (bytes .entry)) at (bytesOf 8 n) ⌝ }
+{
+    put_number(bytes, at, (n % 4294967296) as u32);
+    put_number(bytes, at + 4, (n / 4294967296) as u32);
+}

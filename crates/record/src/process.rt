@@ -1,90 +1,143 @@
-// A process record in an image: 8 bytes at 16 + 8 * i.
-use super::byte::digit;
-use super::byte::number_at;
-use super::byte::put_number;
-use super::byte::wide32;
-use machine::Pair;
-use machine::Process;
+// A process record as one number of eight bytes, by value: byte 0 is the stage, byte 1 the flags, byte 2 the requests and
+// the marks, bytes 4 to 7 the note. Two bits that stand for full and empty are handed out as a number, 0 to 3, with full
+// as its lower bit. Document 01, "The image".
+use super::byte::eight_at;
+use super::byte::put_word;
 ghost use mathlib.Core.Path.{_≡_};
-ghost use Prim.Native.Nat.{_+_, _*_, _≤_, _<_};
+ghost use Prim.Native.Nat.{_+_, _-_, _*_, _/_, _≤_, _<_};
 ghost use lib.ListN.{length};
-ghost use Rattle.machine.specs.Bytes.{splice};
+ghost use lib.Bits.{bitAnd, bitOr};
+ghost use Rattle.machine.specs.Bytes.{number, bytes as bytesOf, splice};
 ghost use Rattle.machine.specs.Ring.{recordAt};
-ghost use Rattle.machine.specs.Image.{pairBits, flagBits, requestBits, processIn, withProcess};
-ghost use Rattle.record.specs.Record.{recordBytesOf};
+ghost use Rattle.record.specs.Words.{stageOf, haveOf, askedOf, itselfOf, marksOf, noteOf};
 
-// Internal: the record of process i.
-pub fn process_at(image: &[u8], i: usize) -> Process
-    requires { ⌜ (i < 64) × (24 + 8 * i ≤ length (now image)) ⌝ }
-    ensures { λ r. ⌜ r ≡ processIn (now (image .entry)) i ⌝ }
-{
-    let at = 16 + 8 * i;
-    let flags = image[at + 1];
-    let requests = image[at + 2];
-    Process {
-        stage: image[at],
-        have: flags / 1 % 2 == 1,
-        arriving: flags / 2 % 2 == 1,
-        news: flags / 4 % 2 == 1,
-        asked: Pair {
-            full: requests / 1 % 2 == 1,
-            empty: requests / 2 % 2 == 1,
-        },
-        itself: Pair {
-            full: requests / 4 % 2 == 1,
-            empty: requests / 8 % 2 == 1,
-        },
-        mark: Pair {
-            full: requests / 16 % 2 == 1,
-            empty: requests / 32 % 2 == 1,
-        },
-        link: Pair {
-            full: requests / 64 % 2 == 1,
-            empty: requests / 128 % 2 == 1,
-        },
-        note: number_at(image, at + 4),
+// A struct around the word, and no struct of its bytes: those would be taken apart and put together again wherever two
+// ways meet, at twice the instructions.
+pub struct Record {
+    pub word: u64,
+}
+
+// Bits of a record: the flags have, arriving and news,
+pub const HAVE: u64 = 0x100;
+
+pub const ARRIVING: u64 = 0x200;
+
+pub const NEWS: u64 = 0x400;
+
+// the lower one of two bits each: asked by the right, asked the left itself, marked, on the link from the right,
+pub const ASKED: u64 = 0x1_0000;
+
+pub const ITSELF: u64 = 0x4_0000;
+
+pub const MARK: u64 = 0x10_0000;
+
+pub const LINK: u64 = 0x40_0000;
+
+// and the lowest of the note.
+pub const NOTE: u64 = 0x1_0000_0000;
+
+impl Record {
+    // Internal: the record of process i.
+    pub fn at(image: &[u8], i: usize) -> Record
+        requires { ⌜ (i < 64) × (24 + 8 * i ≤ length (now image)) ⌝ }
+        ensures { λ r. ⌜ r .word ≡ number (now (image .entry)) (recordAt i) 8 ⌝ }
+    {
+        Record {
+            word: eight_at(image, 16 + 8 * i),
+        }
     }
-}
 
-// Internal: a pair as two bits.
-pub fn pair_bits(p: Pair) -> u8
-    ensures { λ r. ⌜ (r ≡ pairBits p) × (r ≤ 3) ⌝ }
-{
-    digit(p.full) + 2 * digit(p.empty)
-}
+    // Internal: this record, written as that of process i.
+    pub fn put(self, image: &mut [u8], i: usize)
+        requires { ⌜ (i < 64) × (24 + 8 * i ≤ length (now image)) ⌝ }
+        ensures { λ _. ⌜ now (image .exit) ≡ splice (now (image .entry)) (recordAt i) (bytesOf 8 (self .word)) ⌝ }
+    {
+        put_word(image, 16 + 8 * i, self.word);
+    }
 
-fn flag_bits(p: Process) -> u8
-    ensures { λ r. ⌜ r ≡ flagBits p ⌝ }
-{
-    digit(p.have) + 2 * digit(p.arriving) + 4 * digit(p.news)
-}
+    // Internal: the stage.
+    pub fn stage(self) -> u64
+        ensures { λ r. ⌜ r ≡ stageOf (self .word) ⌝ }
+    {
+        self.word % 256
+    }
 
-fn request_bits(p: Process) -> u8
-    ensures { λ r. ⌜ r ≡ requestBits p ⌝ }
-{
-    pair_bits(p.asked) + 4 * pair_bits(p.itself) + 16 * pair_bits(p.mark) + 64 * pair_bits(p.link)
-}
+    // Internal: the record in another stage.
+    pub fn with_stage(self, stage: u64) -> Record
+        requires { ⌜ stage < 256 ⌝ }
+        ensures { λ r. ⌜ r .word ≡ self .word / 256 * 256 + stage ⌝ }
+    {
+        Record {
+            word: self.word / 256 * 256 + stage,
+        }
+    }
 
-// Internal: the bytes of a record and its note, written as the record of process i: two numbers of four bytes, so that
-// what is then read of it at once was written at once.
-pub fn put_bytes(image: &mut [u8], i: usize, stage: u8, flags: u8, requests: u8, note: u32)
-    requires { ⌜ (i < 64) × (24 + 8 * i ≤ length (now image)) ⌝ }
-    ensures { λ _. ⌜ now (image .exit)
-        ≡ splice (now (image .entry)) (recordAt i) (recordBytesOf stage flags requests note) ⌝ }
-{
-    let at = 16 + 8 * i;
-    put_number(
-        image,
-        at,
-        wide32(stage) + 256 * wide32(flags) + 65536 * wide32(requests),
-    );
-    put_number(image, at + 4, note);
-}
+    // Internal: whether the envelope is here.
+    pub fn has_envelope(self) -> bool
+        ensures { λ r. ⌜ r ≡ haveOf (self .word) ⌝ }
+    {
+        self.word / HAVE % 2 == 1
+    }
 
-// Internal: the record of process i, written.
-pub fn put_process(image: &mut [u8], i: usize, p: Process)
-    requires { ⌜ (i < 64) × (24 + 8 * i ≤ length (now image)) ⌝ }
-    ensures { λ _. ⌜ now (image .exit) ≡ withProcess (now (image .entry)) i p ⌝ }
-{
-    put_bytes(image, i, p.stage, flag_bits(p), request_bits(p), p.note);
+    // Internal: what the right has asked for.
+    pub fn asked(self) -> u64
+        ensures { λ r. ⌜ r ≡ askedOf (self .word) ⌝ }
+    {
+        self.word / ASKED % 4
+    }
+
+    // Internal: what the process has asked the left for itself.
+    pub fn itself(self) -> u64
+        ensures { λ r. ⌜ r ≡ itselfOf (self .word) ⌝ }
+    {
+        self.word / ITSELF % 4
+    }
+
+    // Internal: what the process is marked for.
+    pub fn marks(self) -> u64
+        ensures { λ r. ⌜ r ≡ marksOf (self .word) ⌝ }
+    {
+        self.word / MARK % 4
+    }
+
+    // Internal: the note.
+    pub fn note(self) -> u64
+        ensures { λ r. ⌜ r ≡ noteOf (self .word) ⌝ }
+    {
+        self.word / NOTE
+    }
+
+    // Internal: the record with these bits set.
+    pub fn with(self, bits: u64) -> Record
+        ensures { λ r. ⌜ r .word ≡ bitOr (self .word) bits ⌝ }
+    {
+        Record {
+            word: self.word | bits,
+        }
+    }
+
+    // Internal: the record with these bits off.
+    pub fn without(self, bits: u64) -> Record
+        ensures { λ r. ⌜ r .word ≡ bitAnd (self .word) (18446744073709551615 - bits) ⌝ }
+    {
+        Record {
+            word: self.word & (0xFFFF_FFFF_FFFF_FFFF - bits),
+        }
+    }
+
+    // Internal: a left neighbour's record, with these requests on the link from its right; a like one that waits there
+    // absorbs one.
+    pub fn requested(self, asks: u64) -> Record
+        requires { ⌜ asks < 4 ⌝ }
+        ensures { λ r. ⌜ r .word ≡ bitOr (self .word) (asks * 4194304) ⌝ }
+    {
+        self.with(asks * LINK)
+    }
+
+    // Internal: a right neighbour's record, with the envelope arriving from its left.
+    pub fn arrived(self) -> Record
+        ensures { λ r. ⌜ r .word ≡ bitOr (self .word) 512 ⌝ }
+    {
+        self.with(ARRIVING)
+    }
 }

@@ -13,35 +13,6 @@ use Rattle.machine.specs.Host.{wordsOf, resultBytes}
 use Rattle.machine.proofs.Bytes.{length-bytes, splice-next}
 use Rattle.span.proofs.Laws.{splice-none}
 
--- ---- one word
-
--- the lower bytes of a number are those of its remainder
-bytes-low : (width n : ℕ) → bytes width (n % 2 ^ (8 * width)) ≡ bytes width n
-unfolding bytes
-bytes-low zero n = refl
-bytes-low (suc width) n =
-    let wide : 8 * suc width ≡ 8 * width + 8 = omega arith in
-    rw (wide, mod-mod-pow n (8 * width) 8, field n (8 * width) 8, bytes-low width (n / 256))
-
--- so a word is its lower and its upper half
-word-halves : (n : ℕ) → bytes 4 (n % 4294967296) ++ bytes 4 (n / 4294967296) ≡ bytes 8 n
-unfolding bytes
-word-halves n =
-    let two : n / 256 / 256 ≡ n / 65536 = shr-shr n 8 8 in
-    let three : n / 65536 / 256 ≡ n / 16777216 = shr-shr n 16 8 in
-    let four : n / 16777216 / 256 ≡ n / 4294967296 = shr-shr n 24 8 in
-    ap (λ (l : List ℕ). l ++ bytes 4 (n / 4294967296)) (bytes-low 4 n) ∙ rw (two, three, four)
-
--- written one after the other
-pub word-stores : (s : List ℕ) {t u : List ℕ} (at n : ℕ) → at ≤ length s
-    → t ≡ splice s at (bytes 4 (n % 4294967296))
-    → u ≡ splice t (at + 4) (bytes 4 (n / 4294967296))
-    → u ≡ splice s at (bytes 8 n)
-word-stores s at n room first second =
-    let lower = bytes 4 (n % 4294967296) in
-    let there : at + 4 ≡ at + length lower = omega (arith, length-bytes 4 (n % 4294967296)) in
-    second ∙ rw (first, there, splice-next s at lower (bytes 4 (n / 4294967296)) room, word-halves n)
-
 -- ---- words
 
 pub length-words : (ws : List ℕ) → length (wordsOf ws) ≡ 8 * length ws

@@ -1,28 +1,19 @@
 // The result slice of the suite's host: ten 64-bit words from its start. Document 01, "The tape", the sentences on the
 // suite's host.
 use machine::Refusal;
-use record::byte::put_number;
+use record::byte::put_word;
 use refusal::number_of;
 use refusal::place_of;
 ghost use mathlib.Core.Path.{_≡_};
 ghost use mathlib.Core.List.{[], _∷_};
-ghost use Prim.Native.Nat.{_+_, _≤_};
+ghost use Prim.Native.Nat.{_≤_};
 ghost use lib.ListN.{length};
-ghost use Rattle.machine.specs.Bytes.{bytes as bytesOf, splice};
+ghost use Rattle.machine.specs.Bytes.{splice};
 ghost use Rattle.machine.specs.Refusals.{numberOf, placeOf};
 ghost use Rattle.machine.specs.Host.{wordsOf, resultBytes};
 
 // A result slice has at least so many bytes.
 pub const ROOM: usize = 80;
-
-// Internal: a number as eight bytes, lowest first, written.
-pub fn put_word(bytes: &mut [u8], at: usize, n: u64)
-    requires { ⌜ at + 8 ≤ length (now bytes) ⌝ }
-    ensures { λ _. ⌜ now (bytes .exit) ≡ splice (now (bytes .entry)) at (bytesOf 8 n) ⌝ }
-{
-    put_number(bytes, at, (n % 4294967296) as u32);
-    put_number(bytes, at + 4, (n / 4294967296) as u32);
-}
 
 // Internal: ten words, written over the first 80 bytes.
 pub fn tell(result: &mut [u8], words: &[u64; 10])

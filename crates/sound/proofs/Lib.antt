@@ -3,6 +3,8 @@ pub mod Rows
 pub mod Masks
 pub mod Kept
 pub mod Walked
+pub mod One
+pub mod Fits
 pub mod Whole
 pub mod Ends
 pub mod Apart

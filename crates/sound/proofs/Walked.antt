@@ -1,38 +1,30 @@
 -- The walk over the records, step by step: at first it holds what the rules say of no record, and after each step what
 -- they say of one record more. Assumes nothing.
-use Prim.Native.Nat.{ℕ, zero, suc, _+_, _*_, _/_, _%_, _^_, _≤_, _<_}
+use Prim.Native.Nat.{ℕ, zero, suc, _+_, _-_, _*_, _/_, _%_, _^_, _≤_, _<_}
 use mathlib.Core.Path.{_≡_, refl, sym, _∙_}
-use mathlib.Core.Bool.{Bool, true, false, _&&_, _||_}
+use mathlib.Core.Bool.{Bool, true, false, _||_}
 use mathlib.Core.List.{List}
 use native.Mathlib.Omega.{arith}
-use native.Mathlib.Numerals.{add-one}
-use native.Mathlib.Nat.{le-trans, pow-suc, mod-eq-of-lt, add-comm}
+use native.Mathlib.Nat.{le-trans, mod-eq-of-lt}
 use lib.ListN.{getD}
-use lib.Dec.{eqb, ltb, lit<}
+use lib.Dec.{eqb, ltb}
 use borrow.Author.Tests.{lt-ltb}
 use lib.Bits.{bitOr, or-mod, or-shr, or-add-and, and-le-l, and-le-r}
 use lib.Pow.{shr-shr, pow-mono}
-use lib.Count.{ones, ones-step, ones-cat}
+use lib.Count.{ones}
 use Rattle.machine.specs.Bytes.{Bytes, bit, bitOf, number}
+use Rattle.machine.specs.Lists.{tabulate, all}
 use Rattle.machine.specs.Fields.{Status, full, empty, for}
-use Rattle.machine.specs.Image.{processIn, processesIn}
-use Rattle.machine.specs.Sound.{holds, recordRulesIn, recordsFit, places, stageFits, stagesFit, markedSet}
+use Rattle.machine.specs.Image.{processIn}
+use Rattle.machine.specs.Sound.{places, markedSet}
 use Rattle.machine.proofs.Bits.{bit-le, is-bit}
 use Rattle.machine.proofs.Bytes.{number-4, number-8, number-lt}
-use Rattle.machine.proofs.Lists.{and-first, and-second}
-use Rattle.machine.proofs.Walk.{processes-none, processes-more, length-processes, records-none, records-more}
-use Rattle.machine.proofs.Walk.{stages-none, stages-more}
-use Rattle.machine.proofs.Walk.{places-none, places-more, places-le, marked-none, marked-more, marked-lt}
+use Rattle.machine.proofs.Lists.{and-first, and-second, length-tabulate}
+use Rattle.machine.proofs.Walk.{places-le, marked-lt}
 use Rattle.sound.specs.declared.Walk.{Walk}
 use Rattle.sound.specs.Demands.{fromParts}
-use Rattle.sound.specs.Walk.{leftOf, walkedOn, wrongIn, Flags, fitTo, Marks, Walked}
+use Rattle.sound.specs.Walk.{leftOf, walkedOn, wrongIn, Flags, recordsFrom, recordFits, Walked, countsIn}
 use Rattle.sound.proofs.Kept.{kept, clean}
-
-pub pairs : (a b c d : Bool) → (a && b) && (c && d) ≡ (a && c) && (b && d)
-pairs true true c d = refl
-pairs true false true d = refl
-pairs true false false d = refl
-pairs false b c d = refl
 
 -- ---- what is left of several records
 
@@ -97,42 +89,22 @@ flags-more {count} {left} {flags} h a few so =
       sum = rw (mod-eq-of-lt fits) (omega arith);
     }
 
--- ---- a set with one more
+-- ---- the sets
 
-ones-bit : (b : Bool) → ones (bit b) ≡ bit b
+-- no set has a bit
+pub counts-none : (w : Walk) → bitOr (w .full) (w .empty) ≡ 0 → 0 ≡ countsIn w
 unfolding ones
-ones-bit true = refl
-ones-bit false = refl
-
-ones-double : (set : ℕ) (b : Bool) → ones (2 * set + bit b) ≡ bit b + ones set
-ones-double set b =
-    let one = bit-le b in
-    let odd : (2 * set + bit b) % 2 ≡ bit b = omega arith in
-    let half : (2 * set + bit b) / 2 ≡ set = omega arith in
-    ones-step (2 * set + bit b) ∙ rw (odd, half)
-
-marks-none : (s : List ℕ) (st : Status) → Marks s st 0 0
-marks-none s st = record { below = lit< tt; count = rw (processes-none s, marked-none st) }
-
-marks-more : (s : List ℕ) (st : Status) (i : ℕ) {set : ℕ} → Marks s st i set
-    → Marks s st (i + 1) (2 * set + bit (for (processIn s i .mark) st))
-marks-more s st i {set} so =
-    let b = for (processIn s i .mark) st in
-    let ps = processesIn s i in
-    let long = length-processes s i in
-    let small : markedSet st ps < 2 ^ i = rw long at (marked-lt st ps) in
-    let more : markedSet st (processesIn s (i + 1)) ≡ bit b * 2 ^ i + markedSet st ps =
-    rw (processes-more s i, marked-more st ps (processIn s i), long) (add-comm _ _) in
-    record {
-      below = rw (add-one i, pow-suc 2 i) (omega (arith, so .below, bit-le b));
-      count =
-          ones-double set b
-          ∙ rw (more, ones-cat i (bit b) (markedSet st ps) small, ones-bit b, so .count);
-    }
+counts-none w none =
+    let each = or-zero (w .full) (w .empty) none in
+    rw (each .0, each .1)
 
 -- a set of fewer than 64 has room for one more
-pub set-below : (i : ℕ) {set : ℕ} → i < 64 → set < 2 ^ i → set < 2 ^ 63
-set-below i below h = le-trans h (pow-mono {i = i} {j = 63} (omega arith))
+pub set-below : (s : List ℕ) (st : Status) (i k : ℕ) {set : ℕ} → k < 64 → set ≡ markedSet st (recordsFrom s i k)
+    → set < 2 ^ 63
+set-below s st i k {set} few is =
+    let long = length-tabulate (processIn s) i k in
+    let small : markedSet st (recordsFrom s i k) < 2 ^ k = rw long at (marked-lt st (recordsFrom s i k)) in
+    rw is (le-trans small (pow-mono {i = k} {j = 63} (omega arith)))
 
 -- ---- a record's word
 
@@ -171,11 +143,7 @@ module _ (s : List ℕ) (small : Bytes s) (i : ℕ) where
   mark-empty = rw word-is (bit-21 _ _ _ _ _ (small at) (small (at + 1)))
 
   module _ (status : Status) where
-    -- the rules of record i
-    abbrev fits : Bool
-    fits = holds (recordRulesIn s i) && stageFits status (processIn s i)
-
-    word-kept : fits ≡ true
+    word-kept : recordFits s status i ≡ true
         → leftOf (bit status) word ≡ 256 * bit (processIn s i .have) + 512 * bit (processIn s i .arriving)
     unfolding processIn
     word-kept ok =
@@ -183,55 +151,53 @@ module _ (s : List ℕ) (small : Bytes s) (i : ℕ) where
         (kept status _ _ _ _ _ (small at) (small (at + 1)) (small (at + 2)) (small (at + 3)) (number-lt s (at + 4) small)
         ok)
 
-    word-clean : wrongIn (leftOf (bit status) word) ≡ 0 → fits ≡ true
+    word-clean : wrongIn (leftOf (bit status) word) ≡ 0 → recordFits s status i ≡ true
     unfolding processIn
     word-clean none =
         clean status _ _ _ _ _ (small at) (small (at + 1)) (small (at + 2)) (small (at + 3)) (number-lt s (at + 4) small)
         (rw word-is at none)
 
-    -- ---- the walk
+    -- ---- the walk, with record i before those behind it
 
-    fit-more : fitTo s status (i + 1) ≡ fitTo s status i && fits
-    fit-more =
-        rw (processes-more s i, records-more s i, stages-more status (processesIn s i) (processIn s i))
-        (pairs (recordsFit s i) (holds (recordRulesIn s i)) (stagesFit status (processesIn s i))
-        (stageFits status (processIn s i)))
-
-    walk-more : {w : Walk} → i < 64 → Walked s status i w → Walked s status (i + 1) (walkedOn w (bit status) word)
-    unfolding walkedOn
-    walk-more {w} below so =
+    walk-more : (k : ℕ) {w : Walk} → k < 64 → Walked s status (i + 1) k w
+        → Walked s status i (suc k) (walkedOn w (bit status) word)
+    unfolding walkedOn tabulate all places markedSet
+    walk-more k {w} below so =
         let p = processIn s i in
-        let ps = processesIn s i in
-        let few : places ps ≤ 128 = omega (arith, places-le ps, length-processes s i) in
+        let ps = recordsFrom s (i + 1) k in
+        let few : places ps ≤ 128 = omega (arith, places-le ps, length-tabulate (processIn s) (i + 1) k) in
         record {
           clean =
               λ none.
               let each = or-wrong (w .left) (leftOf (bit status) word) none in
-              fit-more ∙ rw (so .clean (each .0), word-clean (each .1));
+              rw (word-clean (each .1), so .clean (each .0));
           found =
               λ ok.
-              let all : fitTo s status i && fits ≡ true = sym fit-more ∙ ok in
-              let here = word-kept (and-second (fitTo s status i) fits all) in
-              rw (here, processes-more s i, places-more ps p)
-              (flags-more (p .have) (p .arriving) few (so .found (and-first (fitTo s status i) fits all)));
-          full = rw mark-full (marks-more s full i (so .full));
-          empty = rw mark-empty (marks-more s empty i (so .empty));
+              let here = word-kept (and-first (recordFits s status i) _ ok) in
+              let more : bit (p .have) + bit (p .arriving) + places ps ≡ places ps + bit (p .have) + bit (p .arriving) =
+              omega arith in
+              rw (here, more)
+              (flags-more (p .have) (p .arriving) few (so .found (and-second (recordFits s status i) _ ok)));
+          full = rw (mark-full, so .full) (omega arith);
+          empty = rw (mark-empty, so .empty) (omega arith);
         }
 
-pub walk-none : (s : List ℕ) (status : Status)
-    → Walked s status 0 (record { left = 0; flags = 0; full = 0; empty = 0 })
-walk-none s status =
+pub walk-none : (s : List ℕ) (status : Status) (i : ℕ)
+    → Walked s status i 0 (record { left = 0; flags = 0; full = 0; empty = 0 })
+unfolding tabulate all places markedSet
+walk-none s status i =
     record {
-      clean = λ none. rw (processes-none s, records-none s, stages-none status);
-      found = λ ok. rw (processes-none s, places-none) flags-none;
-      full = marks-none s full;
-      empty = marks-none s empty;
+      clean = λ none. refl;
+      found = λ ok. flags-none;
+      full = refl;
+      empty = refl;
     }
 
--- as code has it: the status as a digit
-pub walk-step : (s : List ℕ) → Bytes s → (digit i : ℕ) {w w′ : Walk} {word : ℕ} → digit < 2 → i < 64
-    → Walked s (eqb digit 1) i w → word ≡ number s (16 + 8 * i) 8 → w′ ≡ walkedOn w digit word
-    → Walked s (eqb digit 1) (i + 1) w′
-walk-step s small digit i {w} {w′} {word} two below so read next =
+-- as code has it: the status as a digit, and so many records up to n
+pub walk-step : (s : List ℕ) → Bytes s → (digit n i : ℕ) {w w′ : Walk} {word : ℕ} → digit < 2 → i < n → n ≤ 64
+    → Walked s (eqb digit 1) (i + 1) (n - (i + 1)) w → word ≡ number s (16 + 8 * i) 8 → w′ ≡ walkedOn w digit word
+    → Walked s (eqb digit 1) i (n - i) w′
+walk-step s small digit n i {w} {w′} {word} two below most so read next =
     let same : bit (eqb digit 1) ≡ digit = is-bit digit (omega arith) in
-    rw (next, read) (rw same at (walk-more s small i (eqb digit 1) below so))
+    let one : n - i ≡ suc (n - (i + 1)) = omega arith in
+    rw (next, read, one) (rw same at (walk-more s small i (eqb digit 1) (n - (i + 1)) (omega arith) so))

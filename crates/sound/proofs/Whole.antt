@@ -1,194 +1,265 @@
--- Soundness from the header's two words and what the walk gathers: the words have the header's bytes in them, one flag
--- and nothing else is left just where records and stages fit, and the marks are the sets' members. Assumes nothing.
-use Prim.Native.Nat.{ℕ, zero, suc, _+_, _*_, _/_, _%_, _^_, _≤_, _<_}
+-- Soundness from the header's two words and what the walk gathers: one mask, one order and one compare are the header's
+-- rules and both counts, and one flag and nothing else is left just where records and stages fit. Assumes nothing.
+use Prim.Native.Nat.{ℕ, _+_, _*_, _/_, _%_, _^_, _≤_, _<_}
 use mathlib.Core.Path.{_≡_, refl, sym, ap, _∙_}
-use mathlib.Core.Bool.{Bool, true, false, _&&_, _||_}
+use mathlib.Core.Bool.{Bool, true, false, not, _&&_, _||_, true≢false}
 use mathlib.Core.List.{List}
 use mathlib.Core.Logic.{_⊎_, inl, inr, ⊎-elim}
 use native.Mathlib.Omega.{arith}
 use native.Mathlib.Nat.{le-trans}
 use lib.ListN.{getD}
-use lib.Dec.{eqb, ltb}
+use lib.Dec.{eqb, leb}
+use lib.Bits.{bitAnd, and-zero-r}
 use lib.Pow.{pow-mono}
-use lib.Count.{ones}
-use borrow.Author.Tests.{eqb-true, eq-eqb, lt-ltb}
-use Rattle.machine.specs.Bytes.{Bytes, bit, number}
+use lib.Count.{ones, ones-le}
+use borrow.Author.Tests.{not-true, not-false, eqb-true, eq-eqb, leb-true, le-leb}
+use Rattle.machine.specs.Bytes.{Bytes, number, zeros}
+use Rattle.machine.specs.Lists.{every}
 use Rattle.machine.specs.Fields.{Status, full, empty}
 use Rattle.machine.specs.Image.{envelopeIn, processesIn, sizeIn, stateIn}
-use Rattle.machine.specs.Sound.{headerFits, places, markedSet, restFits, sound, ones64}
-use Rattle.machine.proofs.Bits.{bit-is}
-use Rattle.machine.proofs.Bytes.{number-8, number-more, number-lt, zeros-number}
-use Rattle.machine.proofs.Lists.{and-first, and-second, and-both}
+use Rattle.machine.specs.Sound.{headerFits, recordsFit, stagesFit, places, markedSet, restFits, sound, ones64}
+use Rattle.machine.proofs.Bytes.{lt-or-ge, number-8, number-more, number-lt, zeros-number}
+use Rattle.machine.proofs.Lists.{and-first, and-second, and-both, alike}
+use Rattle.machine.proofs.Sound.{sound-facts}
 use Rattle.machine.proofs.Walk.{length-processes, marked-lt, ones-64}
 use Rattle.sound.specs.declared.Walk.{Walk}
-use Rattle.sound.specs.Walk.{wrongIn, Flags, fitTo, Marks, Walked, headerIn}
+use Rattle.sound.specs.Walk.{recordsFrom, fitFrom, Walked, countsIn}
+use Rattle.sound.proofs.Masks.{two-parts}
+use Rattle.sound.proofs.One.{same-test, one-of, oneFlag, one-place}
+use Rattle.sound.proofs.Fits.{fit-whole}
 
--- ---- just one flag
-
-regroup : (h r s p f e : Bool) → h && ((r && s) && p) && f && e ≡ h && r && (p && s && f && e)
-regroup true true true p f e = ap (λ (x : Bool). x && f && e) (swap p)
-  where
-    swap : (p : Bool) → p ≡ p && true
-    swap true = refl
-    swap false = refl
-regroup true true false p f e = nothing p
-  where
-    nothing : (p : Bool) → false ≡ p && false && f && e
-    nothing true = refl
-    nothing false = refl
-regroup true false s p f e = refl
-regroup false r s p f e = refl
-
-same-test : (a b : Bool) → (a ≡ true → b ≡ true) → (b ≡ true → a ≡ true) → a ≡ b
-same-test true b f g = sym (f refl)
-same-test false true f g = g refl
-same-test false false f g = refl
-
-one-of : (a b : Bool) → a || b ≡ true → (a ≡ true) ⊎ (b ≡ true)
-one-of true b e = inl refl
-one-of false b e = inr e
-
-none-of : (n : ℕ) → bit (ltb 0 n) ≡ 0 → n ≡ 0
-none-of zero e = refl
-none-of (suc n) e = let more = ap bit (lt-ltb 0 (suc n) (omega arith)) in absurd (omega (arith, e, more))
-
-arriving-alone : (h a : Bool) → 256 * bit h + 512 * bit a ≡ 512 → bit h ≡ 0
-arriving-alone true true e = absurd (omega arith)
-arriving-alone true false e = absurd (omega arith)
-arriving-alone false a e = refl
-
--- the test, as code makes it
-abbrev oneFlag : ℕ → ℕ → Bool
-oneFlag left flags = (eqb left 256 || eqb left 512) && eqb flags left
-
-only-one : {count left flags : ℕ} → Flags count left flags → oneFlag left flags ≡ true → count ≡ 1
-only-one {count} {left} {flags} so so-one =
-    let total = so .total in
-    let any = so .any in
-    let sum = so .sum in
-    let same = eqb-true flags left (and-second (eqb left 256 || eqb left 512) (eqb flags left) so-one) in
-    ⊎-elim (λ x. omega (arith, eqb-true left 256 x))
-    (λ x.
-    let alone = arriving-alone (ltb 0 (so .h)) (ltb 0 (so .a)) (sym any ∙ eqb-true left 512 x) in
-    omega (arith, eqb-true left 512 x, none-of (so .h) alone))
-    (one-of (eqb left 256) (eqb left 512) (and-first (eqb left 256 || eqb left 512) (eqb flags left) so-one))
-
-one-left : (h a : ℕ) → h + a ≡ 1 → oneFlag (256 * bit (ltb 0 h) + 512 * bit (ltb 0 a)) (256 * h + 512 * a) ≡ true
-one-left zero a e = let one : a ≡ 1 = omega arith in rw one
-one-left (suc zero) a e = let none : a ≡ 0 = omega arith in rw none
-one-left (suc (suc h)) a e = absurd (omega arith)
-
-one-place : (s : List ℕ) (status : Status) (n : ℕ) {w : Walk} → Walked s status n w
-    → oneFlag (w .left) (w .flags) ≡ fitTo s status n && eqb (places (processesIn s n)) 1
-one-place s status n {w} so =
-    same-test _ _
-    (λ so-one.
-    let a = eqb (w .left) 256 in
-    let b = eqb (w .left) 512 in
-    let none : wrongIn (w .left) ≡ 0 =
-    ⊎-elim (λ x. rw (eqb-true (w .left) 256 x)) (λ x. rw (eqb-true (w .left) 512 x))
-    (one-of a b (and-first (a || b) (eqb (w .flags) (w .left)) so-one)) in
-    let fit = so .clean none in
-    and-both _ _ fit (eq-eqb _ _ (only-one (so .found fit) so-one)))
-    (λ so-one.
-    let fit = and-first (fitTo s status n) (eqb (places (processesIn s n)) 1) so-one in
-    let one = eqb-true _ _ (and-second (fitTo s status n) (eqb (places (processesIn s n)) 1) so-one) in
-    let found = so .found fit in
-    rw (found .any, found .sum) (one-left (found .h) (found .a) (sym (found .total) ∙ one)))
-
--- ---- the header
-
-module _ (a b c d e rest : ℕ) (a-lt : a < 256) (b-lt : b < 256) (c-lt : c < 256) (d-lt : d < 256) (e-lt : e < 256) where
-  abbrev firstOf : ℕ
-  firstOf = a + 256 * (b + 256 * (c + 256 * (d + 256 * (e + 256 * rest))))
-
-  byte-1 : firstOf / 256 % 256 ≡ b
-  byte-1 = omega arith
-
-  byte-2 : firstOf / 65536 % 256 ≡ c
-  byte-2 = omega arith
-
-  byte-3 : firstOf / 16777216 % 256 ≡ d
-  byte-3 = omega arith
-
-  byte-4 : firstOf / 4294967296 % 256 ≡ e
-  byte-4 = omega arith
-
-  byte-5 : firstOf / 1099511627776 ≡ rest
-  byte-5 = omega arith
+-- ---- the header's two words
 
 module _ (s : List ℕ) (small : Bytes s) where
-  first-is : number s 0 8
-      ≡ firstOf (getD s 0 0) (getD s 1 0) (getD s 2 0) (getD s 3 0) (getD s 4 0) (number s 5 3) (small 0) (small 1)
-      (small 2) (small 3) (small 4)
+  abbrev first : ℕ
+  first = number s 0 8
+
+  abbrev second : ℕ
+  second = number s 8 8
+
+  first-is : first
+      ≡ getD s 0 0 + 256 * (getD s 1 0 + 256 * (getD s 2 0 + 256 * (getD s 3 0 + 256 * (getD s 4 0 + 256 * number s 5 3))))
   first-is =
       rw (number-more s 0 7, number-more s 1 6, number-more s 2 5, number-more s 3 4, number-more s 4 3)
 
-  second-low : number s 8 8 % 4294967296 ≡ number s 8 4
-  second-low = rw (number-8 s 8) (omega (arith, number-lt s 8 small))
+  -- the status as a bit of it
+  status-bit : first / 256 % 2 ≡ getD s 1 0 % 2
+  status-bit = rw first-is (omega (arith, small 0))
 
-  second-high : number s 8 8 / 4294967296 ≡ number s 12 4
-  second-high = rw (number-8 s 8) (omega (arith, number-lt s 8 small))
+  counts-above : first / 16777216 ≡ getD s 3 0 + 256 * (getD s 4 0 + 256 * number s 5 3)
+  counts-above = rw first-is (omega (arith, small 0, small 1, small 2))
 
-  header-is : headerIn (number s 0 8) (number s 8 8) ≡ headerFits s
-  unfolding headerIn headerFits
-  header-is =
-      rw (
-        second-low,
-        second-high,
-        first-is,
-        byte-1 _ _ _ _ _ _ (small 0) (small 1) (small 2) (small 3) (small 4),
-        byte-2 _ _ _ _ _ _ (small 0) (small 1) (small 2) (small 3) (small 4),
-        byte-5 _ _ _ _ _ _ (small 0) (small 1) (small 2) (small 3) (small 4),
-        zeros-number s 5 3,
-        zeros-number s 8 4,
-        zeros-number s 12 4,
+  -- what is left of it under the mask
+  masked : bitAnd first 16580096 ≡ 256 * (bitAnd (getD s 1 0) 254 + 256 * bitAnd (getD s 2 0) 252)
+  masked =
+      let rest = getD s 3 0 + 256 * (getD s 4 0 + 256 * number s 5 3) in
+      ap (λ x. bitAnd x (0 + 256 * (254 + 256 * (252 + 256 * 0)))) first-is
+      ∙ two-parts (getD s 0 0) 0 (getD s 1 0 + 256 * (getD s 2 0 + 256 * rest)) (254 + 256 * (252 + 256 * 0)) (small 0)
+      (omega arith)
+      ∙ rw (
+        two-parts (getD s 1 0) 254 (getD s 2 0 + 256 * rest) (252 + 256 * 0) (small 1) (omega arith),
+        two-parts (getD s 2 0) 252 rest 0 (small 2) (omega arith),
+        and-zero-r (getD s 0 0),
+        and-zero-r rest,
       )
+      (omega arith)
 
-  status-is : eqb (number s 0 8 / 256 % 256) 1 ≡ envelopeIn s .full
-  unfolding envelopeIn
-  status-is = rw (first-is, byte-1 _ _ _ _ _ _ (small 0) (small 1) (small 2) (small 3) (small 4))
+  low-status : eqb (bitAnd (getD s 1 0) 254) 0 ≡ leb (getD s 1 0) 1
+  unfolding every
+  low-status = alike 256 (λ k. eqb (bitAnd k 254) 0) (λ k. leb k 1) refl (getD s 1 0) (small 1)
 
-  full-is : number s 0 8 / 16777216 % 256 ≡ envelopeIn s .marked .full
-  unfolding envelopeIn
-  full-is = rw (first-is, byte-3 _ _ _ _ _ _ (small 0) (small 1) (small 2) (small 3) (small 4))
+  low-markers : eqb (bitAnd (getD s 2 0) 252) 0 ≡ leb (getD s 2 0) 3
+  unfolding every
+  low-markers = alike 256 (λ k. eqb (bitAnd k 252) 0) (λ k. leb k 3) refl (getD s 2 0) (small 2)
 
-  empty-is : number s 0 8 / 4294967296 % 256 ≡ envelopeIn s .marked .empty
-  unfolding envelopeIn
-  empty-is = rw (first-is, byte-4 _ _ _ _ _ _ (small 0) (small 1) (small 2) (small 3) (small 4))
+  second-is : second ≡ number s 8 4 + 4294967296 * number s 12 4
+  second-is = number-8 s 8
 
-  -- ---- the whole
+  -- a number of some bytes that are 0
+  nothing : (at width : ℕ) → zeros s at width ≡ true → number s at width ≡ 0
+  nothing at width none = eqb-true (number s at width) 0 (sym (zeros-number s at width) ∙ none)
 
-  count-is : (st : Status) (n : ℕ) {set : ℕ} → n ≤ 64 → Marks s st n set
-      → ones set ≡ ones64 (markedSet st (processesIn s n))
-  count-is st n most so =
-      let long = length-processes s n in
-      let below : markedSet st (processesIn s n) < 2 ^ 64 =
-      le-trans (rw long at (marked-lt st (processesIn s n))) (pow-mono {i = n} {j = 64} most) in
-      so .count ∙ sym (ones-64 (markedSet st (processesIn s n)) below)
+  all-zero : (at width : ℕ) → number s at width ≡ 0 → zeros s at width ≡ true
+  all-zero at width none = zeros-number s at width ∙ eq-eqb (number s at width) 0 none
 
-  pub sound-walked : (n : ℕ) {first second d digit : ℕ} {h : Bool} {w : Walk} → n ≡ sizeIn s → n ≤ 64
-      → first ≡ number s 0 8 → second ≡ number s 8 8 → h ≡ headerIn first second
-      → d ≡ bit (eqb (first / 256 % 256) 1) → digit ≡ d → Walked s (eqb digit 1) n w
-      → h && oneFlag (w .left) (w .flags) && eqb (ones (w .full)) (first / 16777216 % 256)
-      && eqb (ones (w .empty)) (first / 4294967296 % 256)
-      ≡ sound s
-  unfolding sound restFits stateIn
-  sound-walked n {first} {second} {d} {digit} {h} {w} size most one two head as-bit as-digit so =
-      let st = envelopeIn s .full in
-      let status : eqb digit 1 ≡ st =
-      bit-is st digit (as-digit ∙ as-bit ∙ ap (λ (x : ℕ). bit (eqb (x / 256 % 256) 1)) one ∙ ap bit status-is) in
-      let walked : Walked s st n w = rw status at so in
-      rw (
-        head,
-        one,
-        two,
-        header-is,
-        one-place s st n walked,
-        count-is full n most (walked .full),
-        count-is empty n most (walked .empty),
-        full-is,
-        empty-is,
-        size,
-      )
-      (regroup (headerFits s) _ _ _ _ _)
+  -- the tests as code makes them
+  pub record Passes (w : Walk) : Type 0 where
+    pub mask : bitAnd first 16580096 ≡ 0
+    pub message : second ≤ first / 256 % 2 * 4294967295
+    pub one : oneFlag (w .left) (w .flags) ≡ true
+    pub counts : countsIn w ≡ first / 16777216
+
+  module _ {n : ℕ} {w : Walk} (size : n ≡ sizeIn s) (most : n ≤ 64) (walked : Walked s (eqb (first / 256 % 2) 1) 0 n w) where
+    abbrev status : Status
+    status = eqb (first / 256 % 2) 1
+
+    status-is : getD s 1 0 ≤ 1 → status ≡ envelopeIn s .full
+    unfolding envelopeIn
+    status-is low =
+        let same : first / 256 % 2 ≡ getD s 1 0 = omega (arith, status-bit) in
+        ap (λ x. eqb x 1) same
+
+    -- how many are in a set of the walk
+    count-is : (st : Status) {set : ℕ} → set ≡ markedSet st (recordsFrom s 0 n)
+        → ones set ≡ ones64 (markedSet st (processesIn s n))
+    unfolding processesIn
+    count-is st is =
+        let long = length-processes s n in
+        let below : markedSet st (processesIn s n) < 2 ^ 64 =
+        le-trans (rw long at (marked-lt st (processesIn s n))) (pow-mono {i = n} {j = 64} most) in
+        ap ones is ∙ sym (ones-64 (markedSet st (processesIn s n)) below)
+
+    few : (st : Status) → ones64 (markedSet st (processesIn s n)) ≤ 64
+    few st =
+        let long = length-processes s n in
+        let below : markedSet st (processesIn s n) < 2 ^ 64 =
+        le-trans (rw long at (marked-lt st (processesIn s n))) (pow-mono {i = n} {j = 64} most) in
+        rw (ones-64 (markedSet st (processesIn s n)) below) (ones-le 64 (markedSet st (processesIn s n)) below)
+
+    -- both counts, from the sets
+    counts-are : countsIn w ≡ ones64 (markedSet full (processesIn s n)) + 256 * ones64 (markedSet empty (processesIn s n))
+    counts-are = rw (count-is full (walked .full), count-is empty (walked .empty))
+
+    sound-passes : sound s ≡ true → Passes w
+    unfolding sound stateIn processesIn envelopeIn
+    sound-passes ok =
+        let facts = sound-facts s ok in
+        let h = facts .header in
+        let records : recordsFit s (sizeIn s) ≡ true =
+        and-second (headerFits s) _ (and-first (headerFits s && recordsFit s (sizeIn s)) _ ok) in
+        let a = eqb-true (bitAnd (getD s 1 0) 254) 0 (low-status ∙ le-leb (getD s 1 0) 1 (h .status)) in
+        let b = eqb-true (bitAnd (getD s 2 0) 252) 0 (low-markers ∙ le-leb (getD s 2 0) 3 (h .markers)) in
+        let spare = nothing 12 4 (h .spare) in
+        let unnamed = nothing 5 3 (h .unnamed) in
+        let full-count =
+        eqb-true (ones64 (markedSet full (processesIn s (sizeIn s)))) (getD s 3 0) (facts .rest .count-full) in
+        let empty-count =
+        eqb-true (ones64 (markedSet empty (processesIn s (sizeIn s)))) (getD s 4 0) (facts .rest .count-empty) in
+        let fit : fitFrom s status 0 n ≡ true =
+        fit-whole s status n ∙ rw (size, records, status-is (h .status)) (facts .rest .stages) in
+        record {
+          mask = masked ∙ rw (a, b);
+          message =
+              ⊎-elim
+              (λ is.
+              let one = eqb-true (getD s 1 0) 1 is in
+              omega (arith, one, status-bit, second-is, spare, number-lt s 8 small))
+              (λ none. omega (arith, second-is, spare, nothing 8 4 none))
+              (one-of (eqb (getD s 1 0) 1) (zeros s 8 4) (h .message));
+          one = one-place s status n walked ∙ rw (fit, size) (eq-eqb _ 1 (facts .rest .one-place));
+          counts = counts-are ∙ rw (size, full-count, empty-count, counts-above, unnamed) (omega arith);
+        }
+
+    module _ (p : Passes w) where
+      low : getD s 1 0 ≤ 1
+      low =
+          let none : bitAnd (getD s 1 0) 254 ≡ 0 = omega (arith, sym masked ∙ p .mask) in
+          leb-true (getD s 1 0) 1 (sym low-status ∙ eq-eqb (bitAnd (getD s 1 0) 254) 0 none)
+
+      low-too : getD s 2 0 ≤ 3
+      low-too =
+          let none : bitAnd (getD s 2 0) 252 ≡ 0 = omega (arith, sym masked ∙ p .mask) in
+          leb-true (getD s 2 0) 3 (sym low-markers ∙ eq-eqb (bitAnd (getD s 2 0) 252) 0 none)
+
+      -- both counts, and nothing behind them
+      counted : (ones64 (markedSet full (processesIn s n)) ≡ getD s 3 0)
+          × (ones64 (markedSet empty (processesIn s n)) ≡ getD s 4 0) × (number s 5 3 ≡ 0)
+      counted =
+          let same = sym counts-are ∙ p .counts ∙ counts-above in
+          let one = few full in
+          let two = few empty in
+          (omega (arith, same, small 3), omega (arith, same, small 3, small 4), omega (arith, same, small 3, small 4))
+
+      spare : number s 12 4 ≡ 0
+      spare = omega (arith, p .message, second-is, number-lt s 8 small)
+
+      -- a message stands in a full envelope alone
+      message-fits : eqb (getD s 1 0) 1 || zeros s 8 4 ≡ true
+      message-fits = go (lt-or-ge (getD s 1 0) 1)
+        where
+          go : (getD s 1 0 < 1) ⊎ (1 ≤ getD s 1 0) → eqb (getD s 1 0) 1 || zeros s 8 4 ≡ true
+          go (inl none) =
+              let zero-status : getD s 1 0 ≡ 0 = omega arith in
+              rw (zero-status, all-zero 8 4 (omega (arith, p .message, second-is, status-bit)))
+          go (inr some) = let one : getD s 1 0 ≡ 1 = omega (arith, low) in rw one
+
+      header-fits : headerFits s ≡ true
+      unfolding headerFits
+      header-fits =
+          rw (
+            le-leb (getD s 1 0) 1 low,
+            le-leb (getD s 2 0) 3 low-too,
+            all-zero 5 3 (counted .2),
+            message-fits,
+            all-zero 12 4 spare,
+          )
+
+      one-there : fitFrom s status 0 n && eqb (places (recordsFrom s 0 n)) 1 ≡ true
+      one-there = sym (one-place s status n walked) ∙ p .one
+
+      records-fit : recordsFit s n && stagesFit status (processesIn s n) ≡ true
+      records-fit = sym (fit-whole s status n) ∙ and-first (fitFrom s status 0 n) _ one-there
+
+      rest-fits : restFits (stateIn s) ≡ true
+      unfolding restFits stateIn processesIn envelopeIn
+      rest-fits =
+          rw (
+            ← size,
+            and-second (fitFrom s status 0 n) _ one-there,
+            ← status-is low,
+            and-second (recordsFit s n) _ records-fit,
+            eq-eqb (ones64 (markedSet full (processesIn s n))) (getD s 3 0) (counted .0),
+            eq-eqb (ones64 (markedSet empty (processesIn s n))) (getD s 4 0) (counted .1),
+          )
+
+      passes-sound : sound s ≡ true
+      unfolding sound
+      passes-sound =
+          let records : recordsFit s (sizeIn s) ≡ true = rw (← size) (and-first (recordsFit s n) _ records-fit) in
+          and-both (headerFits s && recordsFit s (sizeIn s)) (restFits (stateIn s))
+          (and-both (headerFits s) (recordsFit s (sizeIn s)) header-fits records) rest-fits
+
+    -- an image that isn't sound fails a test
+    unsound : (Passes w → ⊥) → false ≡ sound s
+    unsound fails = go (sound s) refl
+      where
+        go : (b : Bool) → sound s ≡ b → false ≡ b
+        go true ok = absurd (fails (sound-passes ok))
+        go false not-so = refl
+
+-- ---- as code goes through the tests
+
+module _ (s : List ℕ) (small : Bytes s) {n a b : ℕ} {w : Walk} (size : n ≡ sizeIn s) (most : n ≤ 64) (one : a ≡ number s 0 8)
+    (two : b ≡ number s 8 8) (walked : Walked s (eqb (a / 256 % 2) 1) 0 n w) where
+  -- the walk was under the status that the word has
+  same-walk : Walked s (eqb (number s 0 8 / 256 % 2) 1) 0 n w
+  same-walk = rw one at walked
+
+  refuse : (Passes s small w → ⊥) → false ≡ sound s
+  refuse = unsound s small size most same-walk
+
+  pub mask-refuses : (bitAnd a 16580096 ≡ 0 → ⊥) → false ≡ sound s
+  mask-refuses left = refuse (λ p. left (rw one (p .mask)))
+
+  pub message-refuses : a / 256 % 2 * 4294967295 < b → false ≡ sound s
+  message-refuses more = refuse (λ p. omega (arith, p .message, rw (one, two) at more))
+
+  pub flags-refuse : not (oneFlag (w .left) (w .flags)) ≡ true → false ≡ sound s
+  flags-refuse no-flag = refuse (λ p. true≢false (sym (p .one) ∙ not-true _ no-flag))
+
+  pub counts-decide : {c : ℕ} → bitAnd a 16580096 ≡ 0 → b ≤ a / 256 % 2 * 4294967295
+      → not (oneFlag (w .left) (w .flags)) ≡ false → c ≡ countsIn w
+      → eqb c (a / 16777216) ≡ sound s
+  counts-decide {c} mask message flag is =
+      same-test _ _
+      (λ same.
+      passes-sound s small size most same-walk
+      (record {
+        mask = rw one at mask;
+        message = rw (one, two) at message;
+        one = not-false _ flag;
+        counts = sym is ∙ eqb-true c (a / 16777216) same ∙ ap (λ x. x / 16777216) one;
+      }))
+      (λ ok.
+      eq-eqb c (a / 16777216)
+      (is ∙ sound-passes s small size most same-walk ok .counts ∙ ap (λ x. x / 16777216) (sym one)))

@@ -1,16 +1,18 @@
 -- What one walk over the records gathers, for every image, sound or not: document 01, "The image", its paragraph on
 -- soundness. Assumes nothing.
-use Prim.Native.Nat.{ℕ, _+_, _*_, _/_, _%_, _^_, _<_}
+use Prim.Native.Nat.{ℕ, _+_, _*_, _/_, _%_, _^_}
 use mathlib.Core.Path.{_≡_}
-use mathlib.Core.Bool.{Bool, true, _&&_, _||_}
+use mathlib.Core.Bool.{Bool, true, _&&_}
 use mathlib.Core.List.{List}
-use lib.Dec.{eqb, leb, ltb}
+use lib.Dec.{ltb}
 use lib.Bits.{bitAnd, bitOr}
 use lib.Count.{ones}
+use Rattle.machine.specs.declared.Process.{Process}
 use Rattle.machine.specs.Bytes.{bit}
 use Rattle.machine.specs.Fields.{Status, full, empty}
-use Rattle.machine.specs.Image.{processesIn}
-use Rattle.machine.specs.Sound.{recordsFit, places, stagesFit, markedSet}
+use Rattle.machine.specs.Lists.{tabulate, all}
+use Rattle.machine.specs.Image.{processIn}
+use Rattle.machine.specs.Sound.{holds, recordRulesIn, stageFits, places, markedSet}
 use Rattle.sound.specs.declared.Walk.{Walk}
 use Rattle.sound.specs.Demands.{entryOf, demandOf}
 
@@ -43,25 +45,25 @@ pub record Flags (count left flags : ℕ) : Type 0 where
   pub any : left ≡ 256 * bit (ltb 0 h) + 512 * bit (ltb 0 a)
   pub sum : flags ≡ 256 * h + 512 * a
 
--- the records' bytes are in range and their stages have the envelope that they need
-abbrev pub fitTo : List ℕ → Status → ℕ → Bool
-fitTo s status n = recordsFit s n && stagesFit status (processesIn s n)
+-- the records i, i + 1, .. (k of them)
+abbrev pub recordsFrom : List ℕ → ℕ → ℕ → List Process
+recordsFrom s i k = tabulate (processIn s) i k
 
--- a set of n has as many members as there are marks
-pub record Marks (s : List ℕ) (status : Status) (n set : ℕ) : Type 0 where
-  pub below : set < 2 ^ n
-  pub count : ones set ≡ ones (markedSet status (processesIn s n))
+-- record i is in range, and its stage has the envelope that it needs
+abbrev pub recordFits : List ℕ → Status → ℕ → Bool
+recordFits s status i = holds (recordRulesIn s i) && stageFits status (processIn s i)
 
--- of the first n records, under this status
-pub record Walked (s : List ℕ) (status : Status) (n : ℕ) (w : Walk) : Type 0 where
-  pub clean : wrongIn (w .left) ≡ 0 → fitTo s status n ≡ true
-  pub found : fitTo s status n ≡ true → Flags (places (processesIn s n)) (w .left) (w .flags)
-  pub full : Marks s full n (w .full)
-  pub empty : Marks s empty n (w .empty)
+-- and so are k records from i on
+abbrev pub fitFrom : List ℕ → Status → ℕ → ℕ → Bool
+fitFrom s status i k = all (λ b. b) (tabulate (recordFits s status) i k)
 
--- ---- the header's own rules, by its two words
+-- of k records from i on, under this status
+pub record Walked (s : List ℕ) (status : Status) (i k : ℕ) (w : Walk) : Type 0 where
+  pub clean : wrongIn (w .left) ≡ 0 → fitFrom s status i k ≡ true
+  pub found : fitFrom s status i k ≡ true → Flags (places (recordsFrom s i k)) (w .left) (w .flags)
+  pub full : w .full ≡ markedSet full (recordsFrom s i k)
+  pub empty : w .empty ≡ markedSet empty (recordsFrom s i k)
 
-unfoldable pub headerIn : ℕ → ℕ → Bool
-headerIn first second =
-    leb (first / 256 % 256) 1 && leb (first / 65536 % 256) 3 && eqb (first / 1099511627776) 0
-    && (eqb (first / 256 % 256) 1 || eqb (second % 4294967296) 0) && eqb (second / 4294967296) 0
+-- both counts, as the header has them: full in a byte, empty above it
+abbrev pub countsIn : Walk → ℕ
+countsIn w = ones (w .full) + 256 * ones (w .empty)

@@ -2,10 +2,8 @@
 // paragraph on soundness.
 use image::Ring;
 use machine::Refusal;
-use record::byte::digit;
 use record::byte::eight_at;
 use record::byte::wide;
-use record::byte::wide64;
 use std::num::wrapping_add_u64;
 ghost use mathlib.Core.Path.{_≡_};
 ghost use Prim.Native.Nat.{_+_, _*_, _^_, _≤_, _<_};
@@ -15,7 +13,7 @@ ghost use Rattle.machine.specs.Image.{sizeIn};
 ghost use Rattle.machine.specs.Sound as rule;
 ghost use Rattle.machine.specs.Refusals.{imageVerdict};
 ghost use Rattle.sound.specs.Demands.{demandOf};
-ghost use Rattle.sound.specs.Walk.{walkedOn, Walked, headerIn};
+ghost use Rattle.sound.specs.Walk.{walkedOn, Walked, countsIn};
 ghost use Rattle.sound.specs.Checked.{checkedAs};
 
 // What a walk over the records gathers: every bit that is left under a record's mask, their sum, which counts the have
@@ -104,10 +102,10 @@ impl Walk {
         }
     }
 
-    // The walk over the first n records.
+    // The walk over n records, from the last to the first, so that digit i of a set is process i.
     fn over(image: &[u8], status: u64, n: usize) -> Walk
         requires { ⌜ (status < 2) × (n ≤ 64) × (16 + 8 * n ≤ length (now image)) ⌝ }
-        ensures { λ r. ⌜ Walked (now (image .entry)) (eqb status 1) n r ⌝ }
+        ensures { λ r. ⌜ Walked (now (image .entry)) (eqb status 1) 0 n r ⌝ }
     {
         let mut walk = Walk {
             left: 0,
@@ -115,45 +113,48 @@ impl Walk {
             full: 0,
             empty: 0,
         };
-        for i in 0..n {
+        let mut i = n;
+        while 0 < i {
+            i -= 1;
             walk = walk.on(status, eight_at(image, 16 + 8 * i));
         }
         walk
     }
+
+    // How many are in both sets, as header bytes 3 and 4 have it. Where nobody is marked no ones are counted: 8 % of a
+    // step of two processes.
+    fn counts(self) -> u64
+        ensures { λ r. ⌜ r ≡ countsIn self ⌝ }
+    {
+        if self.full | self.empty == 0 {
+            return 0;
+        }
+        u64::count_ones(self.full) as u64 + 256 * u64::count_ones(self.empty) as u64
+    }
 }
 
-// The header's own rules, by its two words.
-fn header_fits(first: u64, second: u64) -> bool
-    ensures { λ r. ⌜ r ≡ headerIn first second ⌝ }
-{
-    let status = first / 0x100 % 256;
-    let markers = first / 0x1_0000 % 256;
-    let unnamed = first / 0x100_0000_0000;
-    let message = second % 0x1_0000_0000;
-    let spare = second / 0x1_0000_0000;
-    (status <= 1)
-        & (markers <= 3)
-        & (unnamed == 0)
-        & ((status == 1) | (message == 0))
-        & (spare == 0)
-}
+// The bits of the header's first word that no rule names, up to the markers.
+const UNNAMED: u64 = 0xFC_FE00;
 
-// Internal: whether an image of n processes is sound.
+// Internal: whether an image of n processes is sound. Both counts and the zeros behind them are one compare.
 pub fn is_sound(image: &[u8], n: usize) -> bool
     requires { ⌜ (n ≡ sizeIn (now image)) × (n ≤ 64) × (16 + 8 * n ≤ length (now image)) ⌝ }
     ensures { λ r. ⌜ r ≡ rule.sound (now (image .entry)) ⌝ }
 {
     let first = eight_at(image, 0);
     let second = eight_at(image, 8);
-    let status = wide64(digit(first / 0x100 % 256 == 1));
+    let status = first / 0x100 % 2;
     let w = Walk::over(image, status, n);
-    let one = ((w.left == 256) | (w.left == 512)) & (w.flags == w.left);
-    let full = (first / 0x100_0000 % 256) as u32;
-    let empty = (first / 0x1_0000_0000 % 256) as u32;
-    header_fits(first, second)
-        & one
-        & (u64::count_ones(w.full) == full)
-        & (u64::count_ones(w.empty) == empty)
+    if first & UNNAMED != 0 {
+        return false;
+    }
+    if status * 0xFFFF_FFFF < second {
+        return false;
+    }
+    if !(((w.left == 256) | (w.left == 512)) & (w.flags == w.left)) {
+        return false;
+    }
+    w.counts() == first / 0x100_0000
 }
 
 impl Checked {

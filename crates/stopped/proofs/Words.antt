@@ -24,7 +24,8 @@ use Rattle.machine.proofs.Walk.{processes-none, processes-more}
 use Rattle.span.proofs.Ored.{or-none}
 use Rattle.sound.specs.Demands.{fromParts}
 use Rattle.sound.proofs.Masks.{two-parts}
-use Rattle.sound.proofs.Walked.{pairs, word-is}
+use Rattle.sound.proofs.Fits.{pairs}
+use Rattle.sound.proofs.Walked.{word-is}
 use Rattle.stopped.specs.Stopped.{QuietAre}
 
 -- ---- a mask over several words

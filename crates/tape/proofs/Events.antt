@@ -3,11 +3,11 @@
 use Prim.Native.Nat.{ℕ, _+_, _-_, _*_, _/_, _%_, _^_, _≤_, _<_}
 use mathlib.Core.Path.{_≡_, ap, _∙_}
 use mathlib.Core.Bool.{true}
-use mathlib.Core.List.{List, _∷_}
+use mathlib.Core.List.{List, [], _∷_, _++_}
 use native.Mathlib.Omega.{arith}
 use native.Mathlib.Numerals.{add-one}
-use lib.ListN.{length, getD, drop}
-use lib.Seq.{drop-cons}
+use lib.ListN.{length, getD, take}
+use lib.Seq.{take-suc}
 use borrow.Author.Tests.{lt-ltb}
 use Rattle.machine.specs.declared.Verdict.the-variants.{Fine}
 use Rattle.machine.specs.Bytes.{Bytes}
@@ -17,7 +17,7 @@ use Rattle.machine.specs.Tape.{eventIn, eventsIn, slotAt, listOf}
 use Rattle.machine.specs.Refusals.{tapeVerdict}
 use Rattle.machine.specs.Answers.{runEvents}
 use Rattle.machine.proofs.Bytes.{number-lt}
-use Rattle.machine.proofs.Refusals.{fits-process, fits-code}
+use Rattle.machine.proofs.Refusals.{fits-process}
 use Rattle.machine.proofs.Lists.{length-tabulate, getD-tabulate, all-each}
 use Rattle.machine.proofs.Runs.{fitting}
 use Rattle.blocks.specs.Counted.{eventsOn}
@@ -57,11 +57,11 @@ module _ (codes n : ℕ) (s : List ℕ) (accepted : tapeVerdict codes n s ≡ Fi
       ∙ ap (λ (j : ℕ). eventIn (listOf s) (8 * j)) (let same : 0 + k ≡ k = omega arith in same)
       ∙ event-read s tape k h
 
-  -- the events from k on are event k and those after it
-  pub events-from : (k : ℕ) → k < eventsOn s
-      → drop k (runEvents s) ≡ eventIn s (slotAt (k / 63) (k % 63)) ∷ drop (k + 1) (runEvents s)
-  events-from k h =
-      rw (add-one k, ← event-at k h nobody) (drop-cons (runEvents s) k nobody (rw (length-events s) h))
+  -- the first events up to event k are those before it and event k
+  pub events-to : (k : ℕ) → k < eventsOn s
+      → take (k + 1) (runEvents s) ≡ take k (runEvents s) ++ (eventIn s (slotAt (k / 63) (k % 63)) ∷ [])
+  events-to k h =
+      rw (add-one k, ← event-at k h nobody) (take-suc (runEvents s) k nobody (rw (length-events s) h))
 
   -- event k fits the ring
   pub event-fits : Bytes s → (k : ℕ) → k < eventsOn s → fitting n (eventIn s (slotAt (k / 63) (k % 63))) ≡ true
@@ -73,13 +73,6 @@ module _ (codes n : ℕ) (s : List ℕ) (accepted : tapeVerdict codes n s ≡ Fi
         lt-ltb _ n (fits-process codes n s at (tape .blocks (k / 63) (placed .block) .events (k % 63) (placed .slot))),
         lt-ltb _ (2 ^ 32) (number-lt s (at + 4) small),
       )
-
-  -- and has one of the codes
-  pub event-code : (k : ℕ) → k < eventsOn s → eventIn s (slotAt (k / 63) (k % 63)) .code < codes
-  unfolding eventIn
-  event-code k h =
-      let placed = event-placed s tape k h in
-      fits-code codes n s (slotAt (k / 63) (k % 63)) (tape .blocks (k / 63) (placed .block) .events (k % 63) (placed .slot))
 
   -- every event fits
   pub events-fit : Bytes s → all (fitting n) (runEvents s) ≡ true

@@ -6,7 +6,7 @@
 use crate::guide::{self, Random};
 use crate::plain;
 use crate::runs::used_image;
-use crate::sides::{same, Side};
+use crate::sides::{same, Side, PLAIN, SETS};
 use crate::table::{Table, Unit};
 use crate::timing::{by_turns, Effort, Spent};
 use std::hint::black_box;
@@ -14,6 +14,7 @@ use std::hint::black_box;
 const SIZES: [u64; 3] = [2, 8, 64];
 const STEPS: usize = 65_536;
 const IMAGES: usize = 64;
+const BESIDE_SETS: &str = "plain gathers both sets of marked processes too";
 
 pub fn measure(table: &mut Table, effort: Effort) {
     for n in SIZES {
@@ -37,15 +38,18 @@ fn measure_step(table: &mut Table, effort: Effort, n: u64, name: &str) {
     same("steps", |side| all_steps_seen(side, &start, &list));
     let mut image = start.clone();
     let mut result = [0; 80];
-    let taken = by_turns(effort.rounds, effort.least, |side, spent: &mut Spent| {
-        image.copy_from_slice(&start);
-        spent.on(STEPS, || {
-            for event in list.chunks_exact(8) {
-                black_box((side.step)(black_box(&mut image), black_box(event), black_box(&mut result)));
-            }
-        });
-    });
-    table.line(name, Unit::Call, taken, "a guided list");
+    let mut taken = |base: &Side| {
+        by_turns(effort.rounds, effort.least, base, |side, spent: &mut Spent| {
+            image.copy_from_slice(&start);
+            spent.on(STEPS, || {
+                for event in list.chunks_exact(8) {
+                    black_box((side.step)(black_box(&mut image), black_box(event), black_box(&mut result)));
+                }
+            });
+        })
+    };
+    table.line(name, Unit::Call, taken(&PLAIN), "a guided list");
+    table.aside(Unit::Call, taken(&SETS), BESIDE_SETS);
 }
 
 /// Every answer, and a sum of the images in between.
@@ -73,14 +77,17 @@ fn measure_stopped(table: &mut Table, effort: Effort, n: u64, name: &str) {
         });
     }
     let mut result = [0; 80];
-    let taken = by_turns(effort.rounds, effort.least, |side, spent: &mut Spent| {
-        spent.on(images.len(), || {
-            for image in &images {
-                black_box((side.stopped)(black_box(image), black_box(&mut result)));
-            }
-        });
-    });
-    table.line(name, Unit::Call, taken, "half of the images stopped");
+    let mut taken = |base: &Side| {
+        by_turns(effort.rounds, effort.least, base, |side, spent: &mut Spent| {
+            spent.on(images.len(), || {
+                for image in &images {
+                    black_box((side.stopped)(black_box(image), black_box(&mut result)));
+                }
+            });
+        })
+    };
+    table.line(name, Unit::Call, taken(&PLAIN), "half of the images stopped");
+    table.aside(Unit::Call, taken(&SETS), BESIDE_SETS);
 }
 
 /// Moving images, met by a guided list, and stopped ones, by turns.

@@ -6,7 +6,7 @@
 //! restored between the timed groups.
 
 use crate::guide::{self, Random};
-use crate::sides::{same, Side};
+use crate::sides::{same, Side, PLAIN};
 use crate::table::{Table, Unit};
 use crate::timing::{by_turns, Effort, Medians, Spent};
 use std::hint::black_box;
@@ -113,7 +113,7 @@ impl Pool {
 
     fn timed(&mut self, effort: Effort, exact: bool) -> Medians {
         let rounds = if self.tapes.len() == 1 { effort.long_rounds } else { effort.rounds };
-        by_turns(rounds, effort.least, |side, spent| self.pass(side, exact, spent))
+        by_turns(rounds, effort.least, &PLAIN, |side, spent| self.pass(side, exact, spent))
     }
 
     /// Runs each tape of the pool once.

@@ -1,7 +1,7 @@
 //! The tape's test alone: runs that are refused with 7 at the last of 64 and of 65,536 blocks.
 
 use crate::guide::{self, Random};
-use crate::sides::same;
+use crate::sides::{same, PLAIN};
 use crate::table::{Table, Unit};
 use crate::timing::{by_turns, Effort, Spent};
 use std::hint::black_box;
@@ -30,7 +30,7 @@ fn measure_test(table: &mut Table, effort: Effort, blocks: usize, name: &str) {
         ((side.run)(&mut image, &tape, &mut ledger, &mut result), result)
     });
     assert_eq!((number, &result_seen[..8]), (7, &(blocks as u64 - 1).to_le_bytes()[..]));
-    let taken = by_turns(effort.rounds, effort.least, |side, spent: &mut Spent| {
+    let taken = by_turns(effort.rounds, effort.least, &PLAIN, |side, spent: &mut Spent| {
         spent.on(tape.len(), || {
             black_box((side.run)(&mut image, black_box(&tape), &mut ledger, &mut result));
         });

@@ -1,42 +1,33 @@
--- With no request nothing is touched; else the record at k is read, changed and written. Assumes nothing.
-use native.Mathlib.Omega.{arith}
-use Rattle.place.proofs.Ways.{request-none, request-some}
+-- The record at k is read, changed and written. Assumes nothing.
+use mathlib.Core.Path.{ap, _∙_}
+use Prim.Native.Nat.{_*_}
+use borrow.Author.Needs.{needs}
+use lib.Bits.{bitOr}
+use Rattle.machine.specs.Bytes.{bytes, splice}
+use Rattle.machine.specs.Ring.{recordAt}
 use Rattle.place.proofs.request.Statement.{statement}
 use Rattle.place.proofs.request.Tie as tie
 
-returns : tie.Need-returns
-returns c =
-    let a = c .before .before .before .args in
-    request-none (a .image .now) (a .k) (a .asks) (c .if1 .taken)
-
-process-at-requires : tie.Need-process-at-requires
-process-at-requires c κs = omega arith
+at-requires : tie.Need-at-requires
+at-requires c κs = search needs
 
 requested-requires : tie.Need-requested-requires
-requested-requires c κs = tt
+requested-requires c κs = search needs
 
-put-process-requires : tie.Need-put-process-requires
-put-process-requires c κs = omega arith
+put-requires : tie.Need-put-requires
+put-requires c κs = search needs
 
 same-length : tie.Need-same-length
-same-length c = omega arith
+same-length c = search needs
 
-returns-2 : tie.Need-returns-2
-returns-2 c =
-    let new = c .before .before .before in
-    let read = new .before .before in
-    let tested = read .before .before in
-    let a = tested .before .before .before .args in
-    request-some (a .image .now) (a .k) (a .asks) (tested .if1 .left) (read .process-at .ensures)
-    (new .requested .ensures) (c .before .before .put-process .ensures)
+returns : tie.Need-returns
+returns c =
+    let wrote = c .before .before in
+    let new = wrote .before .before in
+    let a = new .before .before .before .before .args in
+    wrote .put .ensures
+    ∙ ap (λ w. splice (a .image .now) (recordAt (a .k)) (bytes 8 w))
+    (new .requested .ensures ∙ ap (λ w. bitOr w (a .asks * 4194304)) (new .before .at .ensures))
 
 pub request-spec : {M : Type 1} → statement M
-request-spec =
-    tie.close
-    (tie.spec
-    returns
-    process-at-requires
-    requested-requires
-    put-process-requires
-    same-length
-    returns-2)
+request-spec = tie.close (tie.spec at-requires requested-requires put-requires same-length returns)

@@ -1,27 +1,15 @@
--- Each turn performs, enters and counts the next event, so what is left to do gives the whole run throughout, and at the
--- end nothing is left. The inner loop is one block's events: event k is 8 bytes behind the one before it, and the first
--- of a block 16, since 8 bytes stand before its slots. Assumes nothing.
-use Prim.Native.Nat.{_+_, _-_, _*_, _/_, _%_, _≤_, _<_}
+-- Each turn performs the events of a block, so the image, the counts and the ledger are always what the events so far
+-- come to; every block but the last is full, so the next one starts where its 63 events end. Assumes nothing.
+use Prim.Native.Nat.{_+_, _-_, _*_, _/_, _%_, _<_}
 use mathlib.Core.Path.{_≡_}
 use mathlib.Core.Logic.{⊎-elim}
 use native.Mathlib.Omega.{arith}
-use Rattle.machine.specs.Bytes.{Bytes}
-use Rattle.play.proofs.Held.{few-events, slot-within}
-use Rattle.play.proofs.Going.{Going, Onward, going-start, played}
-use Rattle.play.proofs.Ways.{at-slot, may-turn, going-next}
+use Rattle.ledger.proofs.Bounds.{none-above-le}
+use Rattle.play.proofs.Going.{Going, Ends, ends-early, ends-full, few-events, going-start, image-long}
+use Rattle.play.proofs.Going.{none-above, may-turn, going-on, played}
 use Rattle.play.proofs.play.Statement.{statement}
 use Rattle.play.proofs.play.Tie as tie
 
--- in a block: its first event is k₀, and end is behind its last
-abbrev Inv-loop2 : tie.InvT-loop2
-Inv-loop2 image₀ tape events ledger₀ counts₀ at₀ k₀ most end image ledger counts at k =
-    Onward tape events image₀ ledger₀ counts₀ k₀ image ledger counts k
-    × (k ≤ end) × (end ≤ events) × (end ≤ k₀ + 63) × (k₀ ≤ k) × (at ≡ 8 * (k + k₀ / 63 + 1))
-
-abbrev μ-loop2 : tie.MeasureT-loop2
-μ-loop2 image₀ tape events ledger₀ counts₀ at₀ k₀ most end image ledger counts at k = end - k
-
--- between two blocks: each before was full
 abbrev Inv-loop : tie.InvT-loop
 Inv-loop image₀ tape events ledger₀ counts₀ at₀ k₀ image ledger counts at k =
     Going image₀ tape ledger₀ image ledger counts k
@@ -30,153 +18,126 @@ Inv-loop image₀ tape events ledger₀ counts₀ at₀ k₀ image ledger counts
 abbrev μ-loop : tie.MeasureT-loop
 μ-loop image₀ tape events ledger₀ counts₀ at₀ k₀ image ledger counts at k = events - k
 
-loop-holds : tie.Need-loop-holds Inv-loop2 μ-loop2 Inv-loop μ-loop
+loop-holds : tie.Need-loop-holds Inv-loop μ-loop
 loop-holds c =
     let start = c .before .before .before in
-    (going-start (start .pre) (λ i. omega (arith, c .before .before .slice-known .given i)), λ _. omega arith, omega arith)
+    let g =
+    going-start (start .pre) (λ i. omega (arith, c .before .before .slice-known .given i))
+    (λ i. omega (arith, c .before .shared-slice-known .given i)) in
+    (g, λ _. omega arith, omega arith)
 
-add-most : tie.Need-add-most Inv-loop2 μ-loop2 Inv-loop μ-loop
-add-most c =
-    omega (arith, few-events (c .before .before .before .before .before .pre), c .loop-test .taken)
+add-most : tie.Need-add-most Inv-loop μ-loop
+add-most c = omega (arith, few-events (c .before .before .before .before .before .pre), c .loop-test .taken)
 
-add-at : tie.Need-add-at Inv-loop2 μ-loop2 Inv-loop μ-loop
+add-at : tie.Need-add-at Inv-loop μ-loop
 add-at c =
-    let block = c .before .before in
-    omega (arith, few-events (block .before .before .before .before .pre), c .before .loop-test .taken, block .loop .inv .2)
+    let turn = c .before in
+    let here = turn .before .loop in
+    let start = turn .before .before .before .before .before in
+    omega (arith, few-events (start .pre), turn .loop-test .taken, here .inv .2)
 
-loop2-holds : tie.Need-loop2-holds Inv-loop2 μ-loop2 Inv-loop μ-loop
-loop2-holds c =
-    let block = c .before .before in
-    let first = block .loop .inv .1 (c .before .loop-test .taken) in
-    let place = block .loop .inv .2 in
-    ⊎-elim (λ w. (λ s l ready g. g, omega arith, omega arith, omega arith, omega arith, omega arith))
-    (λ w. (λ s l ready g. g, omega arith, omega arith, omega arith, omega arith, omega arith)) (c .if1 .came)
-
-loop-less : tie.Need-loop-less Inv-loop2 μ-loop2 Inv-loop μ-loop
-loop-less c =
-    let here = c .before .loop2 in
-    let block = c .before .before .before .before in
-    ⊎-elim (λ w. omega arith) (λ w. omega arith) (c .before .before .if1 .came)
-
-loop-again : tie.Need-loop-again Inv-loop2 μ-loop2 Inv-loop μ-loop
-loop-again c =
-    let here = c .before .loop2 in
-    let block = c .before .before .before .before in
-    let start = block .before .before .before .before in
-    let first = block .loop .inv .1 (c .before .before .before .loop-test .taken) in
-    let g = here .inv .0 (start .args .image .now) (start .args .ledger .now) (start .pre) (block .loop .inv .0) in
-    ⊎-elim (λ w. (g, λ less. omega arith, omega arith)) (λ w. (g, λ less. omega arith, omega arith))
-    (c .before .before .if1 .came)
-
-read-requires : tie.Need-read-requires Inv-loop2 μ-loop2 Inv-loop μ-loop
-read-requires c κs =
-    let here = c .before .loop2 in
-    let block = c .before .before .before .before in
-    let start = block .before .before .before .before in
-    let first = block .loop .inv .1 (c .before .before .before .loop-test .taken) in
-    omega (arith, slot-within (start .pre) (here .k) (omega (arith, c .loop2-test .taken)))
-
-cast-turn : tie.Need-cast-turn Inv-loop2 μ-loop2 Inv-loop μ-loop
-cast-turn c =
+mul-turns : tie.Need-mul-turns Inv-loop μ-loop
+mul-turns c =
     let turn = c .before .before .before in
-    let here = turn .before .loop2 in
-    let block = turn .before .before .before .before in
-    let start = block .before .before .before .before in
-    omega (arith, few-events (start .pre), turn .loop2-test .taken)
+    let here = turn .before .loop in
+    let start = turn .before .before .before .before .before in
+    omega (arith, few-events (start .pre), turn .loop-test .taken, none-above (start .pre) (here .inv .0) .records)
 
-turn-requires : tie.Need-turn-requires Inv-loop2 μ-loop2 Inv-loop μ-loop
-turn-requires c κs =
+turns-requires : tie.Need-turns-requires Inv-loop μ-loop
+turns-requires c κs =
     let turn = c .before .before .before in
-    let here = turn .before .loop2 in
-    let block = turn .before .before .before .before in
-    let start = block .before .before .before .before in
-    let first = block .loop .inv .1 (turn .before .before .before .loop-test .taken) in
-    let small-tape : Bytes (start .args .tape .now) =
-    λ i. omega (arith, block .before .before .shared-slice-known .given i) in
-    let next : here .k < start .args .events = omega (arith, turn .loop2-test .taken) in
-    let read =
-    at-slot (start .args .tape .now) (here .k) (c .before .before .read .ensures) (omega (arith, turn .loop2-test .taken)) in
-    let g = here .inv .0 (start .args .image .now) (start .args .ledger .now) (start .pre) (block .loop .inv .0) in
-    may-turn (start .pre) small-tape (here .k) next read g
+    let here = turn .before .loop in
+    let start = turn .before .before .before .before .before in
+    let block = c .before .before in
+    let next = turn .loop-test .taken in
+    let ends : Ends (here .k) (start .args .events) (block .if1 .end) =
+    ⊎-elim (λ w. ends-early next (w .0 .taken) (w .1)) (λ w. ends-full next (w .0 .left) (w .1)) (block .if1 .came) in
+    let first = here .inv .1 next in
+    may-turn (start .pre) (here .inv .0) ends first (omega (arith, first, here .inv .2))
 
-add-k : tie.Need-add-k Inv-loop2 μ-loop2 Inv-loop μ-loop
-add-k c =
+added-to-requires : tie.Need-added-to-requires Inv-loop μ-loop
+added-to-requires c κs =
     let turn = c .before .before .before .before .before .before .before .before in
-    let here = turn .before .loop2 in
-    let block = turn .before .before .before .before in
-    let start = block .before .before .before .before in
-    omega (arith, few-events (start .pre), turn .loop2-test .taken)
+    let here = turn .before .loop in
+    let start = turn .before .before .before .before .before in
+    none-above-le (omega (arith, few-events (start .pre), turn .loop-test .taken))
+    (none-above (start .pre) (here .inv .0))
 
-add-at-2 : tie.Need-add-at-2 Inv-loop2 μ-loop2 Inv-loop μ-loop
+sub-at : tie.Need-sub-at Inv-loop μ-loop
+sub-at c =
+    let turn = c .before .before .before .before .before .before .before .before .before .before in
+    let block = c .before .before .before .before .before .before .before .before .before in
+    ⊎-elim (λ w. omega (arith, turn .loop-test .taken)) (λ w. omega arith) (block .if1 .came)
+
+mul-at : tie.Need-mul-at Inv-loop μ-loop
+mul-at c =
+    let block = c .before .before .before .before .before .before .before .before .before in
+    ⊎-elim (λ w. omega arith) (λ w. omega arith) (block .if1 .came)
+
+add-at-2 : tie.Need-add-at-2 Inv-loop μ-loop
 add-at-2 c =
-    let turn = c .before .before .before .before .before .before .before .before in
-    let here = turn .before .loop2 in
-    let block = turn .before .before .before .before in
-    let start = block .before .before .before .before in
-    omega (arith, few-events (start .pre), turn .loop2-test .taken)
+    let turn = c .before .before .before .before .before .before .before .before .before .before in
+    let here = turn .before .loop in
+    let start = turn .before .before .before .before .before in
+    let next = turn .loop-test .taken in
+    let place = here .inv .2 in
+    let few = few-events (start .pre) in
+    let block = c .before .before .before .before .before .before .before .before .before in
+    ⊎-elim (λ w. omega arith) (λ w. omega arith) (block .if1 .came)
 
-loop2-less : tie.Need-loop2-less Inv-loop2 μ-loop2 Inv-loop μ-loop
-loop2-less c =
-    omega (arith, c .before .before .before .before .before .before .before .before .loop2-test .taken)
+loop-less : tie.Need-loop-less Inv-loop μ-loop
+loop-less c =
+    let turn = c .before .before .before .before .before .before .before .before .before .before in
+    let next = turn .loop-test .taken in
+    let block = c .before .before .before .before .before .before .before .before .before in
+    ⊎-elim (λ w. omega arith) (λ w. omega arith) (block .if1 .came)
 
-loop2-again : tie.Need-loop2-again Inv-loop2 μ-loop2 Inv-loop μ-loop
-loop2-again c =
-    let did = c .before .before .before .before .turn .ensures in
-    let turn = c .before .before .before .before .before .before .before .before in
-    let here = turn .before .loop2 in
-    let block = turn .before .before .before .before in
-    let start = block .before .before .before .before in
-    let first = block .loop .inv .1 (turn .before .before .before .loop-test .taken) in
-    let small-tape : Bytes (start .args .tape .now) =
-    λ i. omega (arith, block .before .before .shared-slice-known .given i) in
-    let next : here .k < start .args .events = omega (arith, turn .loop2-test .taken) in
-    let read =
-    at-slot (start .args .tape .now) (here .k) (c .before .before .before .before .before .before .before .read .ensures) (omega (arith, turn .loop2-test .taken)) in (
-      λ s l ready g.
-          going-next ready small-tape (here .k) next read (here .inv .0 s l ready g) (did .0) (did .1 .0) (did .1 .1),
-      omega arith,
-      omega arith,
-      omega arith,
-      omega arith,
-      omega arith,
-    )
+loop-again : tie.Need-loop-again Inv-loop μ-loop
+loop-again c =
+    let turn = c .before .before .before .before .before .before .before .before .before .before in
+    let here = turn .before .loop in
+    let start = turn .before .before .before .before .before in
+    let block = c .before .before .before .before .before .before .before .before .before in
+    let next = turn .loop-test .taken in
+    let ends : Ends (here .k) (start .args .events) (block .if1 .end) =
+    ⊎-elim (λ w. ends-early next (w .0 .taken) (w .1)) (λ w. ends-full next (w .0 .left) (w .1)) (block .if1 .came) in
+    let did = c .before .before .before .before .before .before .turns .ensures in
+    let first = here .inv .1 next in
+    let g =
+    going-on (start .pre) (here .inv .0) ends first (omega (arith, first, here .inv .2)) (did .0) (did .1 .0)
+    (did .1 .1) (c .before .before .before .ledger .given) (c .before .added-to .ensures) in
+    (g, λ less. omega (arith, first, ends .full less), omega (arith, first, here .inv .2, ends .some, ends .few))
 
-same-length : tie.Need-same-length Inv-loop2 μ-loop2 Inv-loop μ-loop
-same-length c =
-    c .before .loop .inv .0 .held .long
+same-length : tie.Need-same-length Inv-loop μ-loop
+same-length c = image-long (c .before .before .before .before .before .pre) (c .before .loop .inv .0)
 
-same-length-2 : tie.Need-same-length-2 Inv-loop2 μ-loop2 Inv-loop μ-loop
-same-length-2 c =
-    c .before .loop .inv .0 .long
+same-length-2 : tie.Need-same-length-2 Inv-loop μ-loop
+same-length-2 c = c .before .loop .inv .0 .long
 
-returns : tie.Need-returns Inv-loop2 μ-loop2 Inv-loop μ-loop
+returns : tie.Need-returns Inv-loop μ-loop
 returns c =
-    let l = c .before .loop in
+    let here = c .before .loop in
     let start = c .before .before .before .before .before in
-    played (start .pre) (l .k) (l .inv .0)
-    (omega (arith, c .loop-test .left, start .pre .counted, l .inv .0 .held .within))
+    played (start .pre) (here .inv .0)
+    (omega (arith, c .loop-test .left, start .pre .counted, here .inv .0 .within))
 
 pub play-spec : {M : Type 1} → statement M
 play-spec =
     tie.close
     (tie.spec
-    Inv-loop2
-    μ-loop2
     Inv-loop
     μ-loop
     loop-holds
     add-most
     add-at
-    loop2-holds
+    mul-turns
+    turns-requires
+    added-to-requires
+    sub-at
+    mul-at
+    add-at-2
     loop-less
     loop-again
-    read-requires
-    cast-turn
-    turn-requires
-    add-k
-    add-at-2
-    loop2-less
-    loop2-again
     same-length
     same-length-2
     returns)

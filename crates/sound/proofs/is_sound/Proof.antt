@@ -1,44 +1,62 @@
--- Header, records and the rest are the rules' three parts; the ones that a machine counts are the set's members.
--- Assumes nothing.
+-- Each test that fails is one that every sound image passes; the last one decides. Assumes nothing.
 use native.Mathlib.Omega.{arith}
-use Rattle.machine.specs.Bytes.{Bytes}
-use Rattle.sound.proofs.Whole.{sound-walked}
+use borrow.Author.Needs.{needs}
+use Rattle.sound.proofs.Whole.{mask-refuses, message-refuses, flags-refuse, counts-decide}
 use Rattle.sound.proofs.is_sound.Statement.{statement}
 use Rattle.sound.proofs.is_sound.Tie as tie
 
 eight-at-requires : tie.Need-eight-at-requires
-eight-at-requires c κs = omega arith
+eight-at-requires c κs = search needs
 
 eight-at-requires-2 : tie.Need-eight-at-requires-2
-eight-at-requires-2 c κs = omega arith
-
-digit-requires : tie.Need-digit-requires
-digit-requires c κs = omega arith
-
-wide64-requires : tie.Need-wide64-requires
-wide64-requires c κs = omega arith
+eight-at-requires-2 c κs = search needs
 
 over-requires : tie.Need-over-requires
-over-requires c κs = omega arith
-
-cast-full : tie.Need-cast-full
-cast-full c = omega arith
-
-cast-empty : tie.Need-cast-empty
-cast-empty c = omega arith
-
-header-fits-requires : tie.Need-header-fits-requires
-header-fits-requires c κs = omega arith
+over-requires c κs = search needs
 
 returns : tie.Need-returns
 returns c =
+    let walked = c .before in
+    let read = walked .before in
+    let known = read .before .before in
+    let start = known .before in
+    mask-refuses (start .args .image .now) (λ k. omega (arith, known .shared-slice-known .given k)) (start .pre .0)
+    (start .pre .1) (read .before .eight-at .ensures) (read .eight-at2 .ensures) (walked .over .ensures) (c .if1 .taken)
+
+mul-if2 : tie.Need-mul-if2
+mul-if2 c = search needs
+
+returns-2 : tie.Need-returns-2
+returns-2 c =
+    let walked = c .before .before in
+    let read = walked .before in
+    let known = read .before .before in
+    let start = known .before in
+    message-refuses (start .args .image .now) (λ k. omega (arith, known .shared-slice-known .given k)) (start .pre .0)
+    (start .pre .1) (read .before .eight-at .ensures) (read .eight-at2 .ensures) (walked .over .ensures) (c .if2 .taken)
+
+returns-3 : tie.Need-returns-3
+returns-3 c =
     let walked = c .before .before .before .before .before .before in
-    let read = walked .before .before .before in
-    let start = read .before .before .before in
-    let small : Bytes (start .args .image .now) = λ k. omega (arith, read .before .before .shared-slice-known .given k) in
-    sound-walked (start .args .image .now) small (start .args .n) (start .pre .0) (start .pre .1)
-    (read .before .eight-at .ensures) (read .eight-at2 .ensures) (c .before .before .header-fits .ensures)
-    (walked .before .before .digit .ensures .0) (walked .before .wide64 .ensures .0) (walked .over .ensures)
+    let read = walked .before in
+    let known = read .before .before in
+    let start = known .before in
+    flags-refuse (start .args .image .now) (λ k. omega (arith, known .shared-slice-known .given k)) (start .pre .0)
+    (start .pre .1) (read .before .eight-at .ensures) (read .eight-at2 .ensures) (walked .over .ensures) (c .if3 .taken)
+
+counts-requires : tie.Need-counts-requires
+counts-requires c κs = search needs
+
+returns-4 : tie.Need-returns-4
+returns-4 c =
+    let ordered = c .before .before .before .before .before in
+    let walked = ordered .before .before in
+    let read = walked .before in
+    let known = read .before .before in
+    let start = known .before in
+    counts-decide (start .args .image .now) (λ k. omega (arith, known .shared-slice-known .given k)) (start .pre .0)
+    (start .pre .1) (read .before .eight-at .ensures) (read .eight-at2 .ensures) (walked .over .ensures)
+    (ordered .before .if1 .left) (ordered .if2 .left) (c .before .if3 .left) (c .counts .ensures)
 
 pub is-sound-spec : {M : Type 1} → statement M
 is-sound-spec =
@@ -46,10 +64,10 @@ is-sound-spec =
     (tie.spec
     eight-at-requires
     eight-at-requires-2
-    digit-requires
-    wide64-requires
     over-requires
-    cast-full
-    cast-empty
-    header-fits-requires
-    returns)
+    returns
+    mul-if2
+    returns-2
+    returns-3
+    counts-requires
+    returns-4)

@@ -1,7 +1,7 @@
--- Each refusal is the rule's first; past them the checked step does what the rule says. Assumes nothing.
+-- Each refusal is the rule's first; past them a run of the one event does what the rule says. Assumes nothing.
 use mathlib.Core.Path.{_∙_}
 use native.Mathlib.Omega.{arith}
-use Rattle.step.proofs.Ways.{image-refused, event-refused, may-perform, step-done}
+use Rattle.step.proofs.Ways.{image-refused, event-refused, may-turn, step-done}
 use Rattle.step.proofs.step.Statement.{statement}
 use Rattle.step.proofs.step.Tie as tie
 
@@ -38,17 +38,17 @@ returns-2 c =
 parse-requires : tie.Need-parse-requires
 parse-requires c κs = tt
 
+enum-told-2 : tie.Need-enum-told-2
+enum-told-2 c = omega arith
+
 enum-known-parsed : tie.Need-enum-known-parsed
 enum-known-parsed c = omega arith
 
 enum-known-parsed-2 : tie.Need-enum-known-parsed-2
 enum-known-parsed-2 c = omega arith
 
-enum-known-parsed-3 : tie.Need-enum-known-parsed-3
-enum-known-parsed-3 c = omega arith
-
-enum-told-2 : tie.Need-enum-told-2
-enum-told-2 c = omega arith
+enum-told-3 : tie.Need-enum-told-3
+enum-told-3 c = omega arith
 
 same-length-3 : tie.Need-same-length-3
 same-length-3 c = omega arith
@@ -61,35 +61,35 @@ same-length-4 c = omega arith
 
 returns-4 : tie.Need-returns-4
 returns-4 c =
-    let a = c .before .before .before .before .before .before .before .before .before .before .before .before .before
-    .before .args in
-    event-refused (a .image .now) (a .event .now)
-    (c .before .before .before .before .before .before .before .before .before .before .of .ensures)
-    (c .before .before .before .before .before .before .before .before .checked .given .1)
-    (c .before .before .before .before .before .before .parse .ensures)
-    (c .before .before .before .before .parsed2 .given .1 ∙ c .before .parsed3 .given .1)
+    let parsed = c .before .before .before .before .before .before in
+    let checked = parsed .before .before .before .before in
+    let a = checked .before .before .before .before .args in
+    event-refused (a .image .now) (a .event .now) (checked .of .ensures) (parsed .before .before .checked .given .1)
+    (parsed .parse .ensures) (c .before .before .before .before .parsed .given .1 ∙ c .before .parsed2 .given .1)
 
-perform-requires : tie.Need-perform-requires
-perform-requires c κs =
-    let a = c .before .before .before .before .before .before .before .before .before .before .before .before .args in
-    may-perform (a .image .now) (a .event .now)
-    (c .before .before .before .before .before .before .before .before .of .ensures)
-    (c .before .before .before .before .before .before .checked .given .1)
-    (c .before .before .before .before .parse .ensures) (c .before .before .parsed .given .1)
+slice-aggregate-turns : tie.Need-slice-aggregate-turns
+slice-aggregate-turns c = omega arith
+
+turns-requires : tie.Need-turns-requires
+turns-requires c κs =
+    let parsed = c .before .before .before .before in
+    let checked = parsed .before .before .before .before in
+    let a = checked .before .before .before .before .args in
+    may-turn (a .image .now) (a .event .now) (checked .of .ensures) (parsed .before .before .checked .given .1)
+    (parsed .parse .ensures) (c .before .before .enum-told2 .given .1)
 
 same-length-5 : tie.Need-same-length-5
 same-length-5 c = omega arith
 
 returns-5 : tie.Need-returns-5
 returns-5 c =
-    let a = c .before .before .before .before .before .before .before .before .before .before .before .before .before
-    .before .before .args in
-    step-done (a .image .now) (a .event .now)
-    (c .before .before .before .before .before .before .before .before .before .before .before .of .ensures)
-    (c .before .before .before .before .before .before .before .before .before .checked .given .1)
-    (c .before .before .before .before .before .before .before .parse .ensures)
-    (c .before .before .before .before .before .parsed .given .1) (c .before .before .perform .ensures .0)
-    (c .before .before .perform .ensures .1)
+    let did = c .before .before .before in
+    let parsed = did .before .before .before .before .before in
+    let checked = parsed .before .before .before .before in
+    let a = checked .before .before .before .before .args in
+    step-done (a .image .now) (a .event .now) (checked .of .ensures) (parsed .before .before .checked .given .1)
+    (parsed .parse .ensures) (did .before .before .before .enum-told2 .given .1)
+    (did .turns .ensures .0) (did .turns .ensures .1 .0)
 
 pub step-spec : {M : Type 1} → statement M
 step-spec =
@@ -105,14 +105,15 @@ step-spec =
     same-length-2
     returns-2
     parse-requires
+    enum-told-2
     enum-known-parsed
     enum-known-parsed-2
-    enum-known-parsed-3
-    enum-told-2
+    enum-told-3
     same-length-3
     returns-3
     same-length-4
     returns-4
-    perform-requires
+    slice-aggregate-turns
+    turns-requires
     same-length-5
     returns-5)

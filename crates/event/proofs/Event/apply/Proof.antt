@@ -1,110 +1,68 @@
--- Each code's function is that code's rule; other codes do nothing. Assumes nothing.
-use Rattle.machine.specs.Events as rule
-use Rattle.event.proofs.Codes.{by-code, no-code}
+-- The record after its code's row is in order, and put, main's work or nothing more makes the rule's reaction of it
+-- (Applied). Assumes nothing.
+use native.Mathlib.Omega.{arith}
+use borrow.Author.Needs.{needs}
+use Rattle.event.proofs.Applied.{word-fits, in-order, begun, after-put, after-work, after-row}
 use Rattle.event.proofs.Event.apply.Statement.{statement}
 use Rattle.event.proofs.Event.apply.Tie as tie
 
-start-put-requires : tie.Need-start-put-requires
-start-put-requires c κs = tt
+row-of-requires : tie.Need-row-of-requires
+row-of-requires c κs = search needs
 
-start-get-requires : tie.Need-start-get-requires
-start-get-requires c κs = tt
+sub-t8 : tie.Need-sub-t8
+sub-t8 c = search needs
 
-work-requires : tie.Need-work-requires
-work-requires c κs = tt
+add-t10 : tie.Need-add-t10
+add-t10 c =
+    let start = c .before .before .before in
+    omega (arith, word-fits (start .before .pre) (start .row-of .ensures))
 
-signal-requires : tie.Need-signal-requires
-signal-requires c κs = tt
+cast-t11 : tie.Need-cast-t11
+cast-t11 c = search needs
 
-receive-requires : tie.Need-receive-requires
-receive-requires c κs = tt
+mul-t12 : tie.Need-mul-t12
+mul-t12 c = search needs
 
-hear-requires : tie.Need-hear-requires
-hear-requires c κs = tt
-
-hear-requires-2 : tie.Need-hear-requires-2
-hear-requires-2 c κs = tt
-
-put-requires : tie.Need-put-requires
-put-requires c κs = c .before .pre
+add-t13 : tie.Need-add-t13
+add-t13 c =
+    let start = c .before .before .before .before in
+    omega (arith, word-fits (start .before .pre) (start .row-of .ensures))
 
 becomes-requires : tie.Need-becomes-requires
-becomes-requires c κs = tt
+becomes-requires c κs = search needs
+
+put-at-requires : tie.Need-put-at-requires
+put-at-requires c κs =
+    let start = c .before .before .before .before .before .before in
+    begun (start .before .pre) (start .row-of .ensures) (c .becomes .ensures)
 
 returns : tie.Need-returns
-unfolding rule.react
 returns c =
-    let a = c .before .before .args in
-    by-code (a .self .code) (a .self .message) (a .e) (a .own) 0 (c .before .match .keys1) (c .start-put .ensures)
+    let start = c .before .before .before .before .before .before .before in
+    after-put (start .before .pre) (start .row-of .ensures) (c .before .becomes .ensures)
+    (c .before .before .if1 .taken) (c .put-at .ensures)
+
+work-requires : tie.Need-work-requires
+work-requires c κs =
+    let start = c .before .before .before .before .before .before in
+    in-order (start .before .pre) (start .row-of .ensures)
 
 returns-2 : tie.Need-returns-2
-unfolding rule.react
 returns-2 c =
-    let a = c .before .before .args in
-    by-code (a .self .code) (a .self .message) (a .e) (a .own) 1 (c .before .match .keys2) (c .start-get .ensures)
+    let start = c .before .before .before .before .before .before .before in
+    after-work (start .before .pre) (start .row-of .ensures) (c .before .if2 .taken) (c .work .ensures)
+
+becomes-requires-2 : tie.Need-becomes-requires-2
+becomes-requires-2 c κs = search needs
 
 returns-3 : tie.Need-returns-3
-unfolding rule.react
 returns-3 c =
-    let a = c .before .before .args in
-    by-code (a .self .code) (a .self .message) (a .e) (a .own) 2 (c .before .match .keys3) (c .work .ensures)
-
-returns-4 : tie.Need-returns-4
-unfolding rule.react
-returns-4 c =
-    let a = c .before .before .args in
-    by-code (a .self .code) (a .self .message) (a .e) (a .own) 3 (c .before .match .keys4) (c .signal .ensures)
-
-returns-5 : tie.Need-returns-5
-unfolding rule.react
-returns-5 c =
-    let a = c .before .before .args in
-    by-code (a .self .code) (a .self .message) (a .e) (a .own) 4 (c .before .match .keys5) (c .receive .ensures)
-
-returns-6 : tie.Need-returns-6
-unfolding rule.react
-returns-6 c =
-    let a = c .before .before .args in
-    by-code (a .self .code) (a .self .message) (a .e) (a .own) 5 (c .before .match .keys6) (c .hear .ensures)
-
-returns-7 : tie.Need-returns-7
-unfolding rule.react
-returns-7 c =
-    let a = c .before .before .args in
-    by-code (a .self .code) (a .self .message) (a .e) (a .own) 6 (c .before .match .keys7) (c .hear2 .ensures)
-
-returns-8 : tie.Need-returns-8
-unfolding rule.react
-returns-8 c =
-    let a = c .before .before .args in
-    by-code (a .self .code) (a .self .message) (a .e) (a .own) 7 (c .before .match .keys8) (c .put .ensures)
-
-returns-9 : tie.Need-returns-9
-returns-9 c =
-    let a = c .before .before .args in
-    let no = c .before .match .rest in
-    no-code (a .self .code) (a .self .message) (a .e) (a .own) (no .0 .0 .0 .0 .0 .0 .0 .1) (no .0 .0 .0 .0 .0 .0 .1)
-    (no .0 .0 .0 .0 .0 .1) (no .0 .0 .0 .0 .1) (no .0 .0 .0 .1) (no .0 .0 .1) (no .0 .1) (no .1) (c .becomes .ensures)
+    let start = c .before .before .before .before .before .before .before in
+    after-row (start .before .pre) (start .row-of .ensures) (c .becomes2 .ensures) (c .before .before .if1 .left)
+    (c .before .if2 .left)
 
 pub apply-spec : {M : Type 1} → statement M
 apply-spec =
     tie.close
-    (tie.spec
-    start-put-requires
-    start-get-requires
-    work-requires
-    signal-requires
-    receive-requires
-    hear-requires
-    hear-requires-2
-    put-requires
-    becomes-requires
-    returns
-    returns-2
-    returns-3
-    returns-4
-    returns-5
-    returns-6
-    returns-7
-    returns-8
-    returns-9)
+    (tie.spec row-of-requires sub-t8 add-t10 cast-t11 mul-t12 add-t13 becomes-requires put-at-requires returns
+    work-requires returns-2 becomes-requires-2 returns-3)

@@ -1,0 +1,107 @@
+-- A possible event once its row is done (Next): what put and main's work may then know, and that what they make of it
+-- is the rule's reaction. Assumes nothing.
+use Prim.Native.Nat.{ℕ, _+_, _-_, _*_, _%_, _^_, _<_}
+use mathlib.Core.Path.{_≡_, refl, sym, ap, _∙_}
+use native.Mathlib.Omega.{arith}
+use native.Mathlib.Nat.{mod-eq-of-lt}
+use lib.Bits.{bitAnd}
+use lib.Dec.{lit<}
+use borrow.Author.Tests.{eq-eqb, ne-eqb}
+use Rattle.machine.specs.declared.Outcome.the-variants.{Moved}
+use Rattle.machine.specs.Fields.{for}
+use Rattle.machine.specs.Events.{putAt, react}
+use Rattle.record.specs.declared.process.Record.{Record}
+use Rattle.record.specs.declared.header.Header.{Header}
+use Rattle.record.specs.Words.{stageOf, shownProcess, shownEnvelope, Tidy, TidyHeader}
+use Rattle.event.specs.declared.Event.{Event}
+use Rattle.event.specs.declared.Row.{Row}
+use Rattle.event.specs.declared.Reaction.{Reaction}
+use Rattle.event.specs.declared.Reach.the-variants.{Own}
+use Rattle.event.specs.Rows.{rowOf}
+use Rattle.event.specs.Reaction.{Ruled, shown, Fits, Begun, Counted, Makes, worked, Applicable, Reacts}
+use Rattle.event.proofs.Next.{Next, next}
+
+module _ {v : Event} {header : Header} {own : Record} {row : Row} (known : Applicable v header own)
+    (read : row ≡ rowOf (v .code % 8)) where
+  -- the word as the code computes it
+  abbrev word : ℕ
+  word = bitAnd (own .word) (18446744073709551615 - row .off) + row .on + v .message * 4294967296
+
+  abbrev ruled : Ruled
+  ruled = react (v .code) (v .message) (shownEnvelope header) (shownProcess (own .word))
+
+  row-is : row ≡ rowOf (v .code)
+  row-is = read ∙ ap rowOf (mod-eq-of-lt (known .code))
+
+  stepped : Next (v .code) (shownEnvelope header) (own .word) word ruled
+  stepped =
+      rw row-is
+      (next (v .message) (own .word) (shownEnvelope header) (known .message) (known .tidy) (known .stage) (v .code)
+      (known .code) (known .silent) (known .moves))
+
+  pub in-order : Tidy word × TidyHeader header
+  in-order = (stepped .tidy, known .header-tidy)
+
+  pub word-fits : word < 2 ^ 64
+  word-fits = omega (arith, stepped .tidy .note)
+
+  -- ---- what goes on from here
+
+  -- the record after its row, and nothing else yet
+  abbrev begin : Reaction
+  begin =
+      record { own = record { word = word }; header = header; reach = Own; started = row .started; outcome = Moved }
+
+  begin-fits : Fits begin
+  begin-fits = record { own = stepped .tidy; header = known .header-tidy; asks = lit< tt }
+
+  pub begun : {r : Reaction} → r ≡ begin → Begun r × Counted r
+  begun is =
+      rw is (
+        record { fits = begin-fits; here = refl },
+        record {
+          room = known .ready .room;
+          counted = λ s marked. known .ready .counted s (ap (λ m. for m s) (sym (stepped .marks)) ∙ marked);
+        },
+      )
+
+  -- ---- what came of it
+
+  counts : row .started ≡ rowOf (v .code) .started
+  counts = ap (λ x. x .started) row-is
+
+  abbrev Answers : Reaction → Type 0
+  Answers r = Reacts ruled header (rowOf (v .code) .started) r
+
+  pub after-put : {r t : Reaction} → r ≡ begin → v .code ≡ 7 → Makes (putAt (stageOf (r .own .word))) r t → Answers t
+  after-put is seven made =
+      record {
+        shows =
+            made .shows ∙ ap (λ x. putAt (stageOf (x .own .word)) (shown x)) is
+            ∙ (rw (eq-eqb (v .code) 7 seven) at (stepped .makes));
+        fits = made .fits;
+        size = made .size ∙ ap (λ x. x .header .word % 256) is;
+        counts = made .started ∙ ap (λ x. x .started) is ∙ counts;
+      }
+
+  pub after-work : {t : Reaction} → v .code ≡ 2
+      → Reacts (worked (shownEnvelope header) (shownProcess word)) header 0 t → Answers t
+  unfolding rowOf
+  after-work two made =
+      let not-seven = ne-eqb (v .code) 7 (λ is. omega arith) in
+      record {
+        shows = made .shows ∙ (rw (not-seven, eq-eqb (v .code) 2 two) at (stepped .makes));
+        fits = made .fits;
+        size = made .size;
+        counts = made .counts ∙ rw two;
+      }
+
+  pub after-row : {r : Reaction} → r ≡ begin → (v .code ≡ 7 → ⊥) → (v .code ≡ 2 → ⊥) → Answers r
+  after-row is not-seven not-two =
+      rw is
+      (record {
+        shows = rw (ne-eqb (v .code) 7 not-seven, ne-eqb (v .code) 2 not-two) at (stepped .makes);
+        fits = begin-fits;
+        size = refl;
+        counts = counts;
+      })

@@ -1,0 +1,60 @@
+-- Where the stage is 4 the envelope is filled, elsewhere emptied, each as the rule has it (Works). Assumes nothing.
+use mathlib.Core.Path.{refl, sym, _∙_}
+use mathlib.Core.Bool.{true, false}
+use borrow.Author.Needs.{needs}
+use borrow.Author.Tests.{eq-eqb, ne-eqb}
+use Rattle.record.specs.Words.{stageOf}
+use Rattle.event.proofs.Works.{works}
+use Rattle.event.proofs.work.Statement.{statement}
+use Rattle.event.proofs.work.Tie as tie
+
+stage-requires : tie.Need-stage-requires
+stage-requires c κs = search needs
+
+note-requires : tie.Need-note-requires
+note-requires c κs = search needs
+
+cast-t9 : tie.Need-cast-t9
+cast-t9 c = search needs
+
+filled-requires : tie.Need-filled-requires
+filled-requires c κs = search needs
+
+becomes-requires : tie.Need-becomes-requires
+becomes-requires c κs = search needs
+
+returns : tie.Need-returns
+returns c =
+    let start = c .before .before .before .before .before .before in
+    let w = start .args .own .word in
+    let stage = c .before .before .before .before .before .stage .ensures in
+    let note = c .before .before .before .note .ensures in
+    let header = c .before .filled .ensures in
+    works (start .args .header) w (start .pre .0) (start .pre .1) true
+    (eq-eqb (stageOf w) 4 (sym stage ∙ c .before .before .before .before .if1 .taken)) refl (header .0)
+    (header .1 ∙ note) (c .becomes .ensures ∙ rw note)
+
+cast-message : tie.Need-cast-message
+cast-message c = search needs
+
+emptied-requires : tie.Need-emptied-requires
+emptied-requires c κs = search needs
+
+becomes-requires-2 : tie.Need-becomes-requires-2
+becomes-requires-2 c κs = search needs
+
+returns-2 : tie.Need-returns-2
+returns-2 c =
+    let start = c .before .before .before .before .before in
+    let w = start .args .own .word in
+    let stage = c .before .before .before .before .stage .ensures in
+    let header = c .before .emptied .ensures in
+    works (start .args .header) w (start .pre .0) (start .pre .1) false
+    (ne-eqb (stageOf w) 4 (λ is. c .before .before .before .if1 .left (stage ∙ is))) refl (header .0) (header .1)
+    (c .becomes2 .ensures)
+
+pub work-spec : {M : Type 1} → statement M
+work-spec =
+    tie.close
+    (tie.spec stage-requires note-requires cast-t9 filled-requires becomes-requires returns cast-message
+    emptied-requires becomes-requires-2 returns-2)

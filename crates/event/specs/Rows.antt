@@ -1,0 +1,47 @@
+-- The tables of an event: which bit of a record makes a code possible, and what a code does to its own record. Assumes
+-- nothing.
+use Prim.Native.Nat.{ℕ, _+_, _*_, _^_}
+use mathlib.Core.Path.{_≡_}
+use mathlib.Core.Bool.{Bool, not, cond, _||_}
+use lib.Dec.{eqb}
+use Rattle.machine.specs.declared.Envelope.{Envelope}
+use Rattle.machine.specs.Bytes.{bit}
+use Rattle.machine.specs.Stages.{told}
+use Rattle.machine.specs.Events.{react}
+use Rattle.machine.specs.Stopped.{isIdle}
+use Rattle.record.specs.Words.{shownProcess}
+use Rattle.event.specs.declared.Row.{Row}
+
+-- b says whether an event of this code isn't idle at a process with this record, whatever its message and the envelope
+abbrev pub Possible : ℕ → ℕ → Bool → Type 0
+Possible code w b = (message : ℕ) (e : Envelope) → b ≡ not (isIdle (react code message e (shownProcess w) .outcome))
+
+-- the codes 0 to 3 that a stage makes possible, bit c for code c; stage 15, which no record has, has a bit of its own
+abbrev pub openAt : ℕ → ℕ
+openAt stage =
+    3 * bit (eqb stage 0) + 4 * bit (eqb stage 3 || eqb stage 8) + 8 * bit (told stage) + 16 * bit (eqb stage 15)
+
+-- as bits of byte 3
+unfoldable pub codesAt : ℕ → ℕ
+codesAt stage = 2 ^ 24 * openAt stage
+
+-- the bit that makes a code possible
+unfoldable pub needOf : ℕ → ℕ
+needOf code =
+    cond (eqb code 4) (2 ^ 9)
+    (cond (eqb code 5) (2 ^ 22) (cond (eqb code 6) (2 ^ 23) (cond (eqb code 7) (2 ^ 10) (2 ^ (24 + code)))))
+
+abbrev row : ℕ → ℕ → ℕ → Row
+row off on started = record { off = off; on = on; started = started }
+
+-- what a code turns off in its own record, what it then adds, and what it counts as started
+unfoldable pub rowOf : ℕ → Row
+rowOf code =
+    cond (eqb code 0) (row 18446744069414584320 1 281474976710656)
+    (cond (eqb code 1) (row 0 6 72057594037927936)
+    (cond (eqb code 2) (row 0 1 0)
+    (cond (eqb code 3) (row 1024 1025 0)
+    (cond (eqb code 4) (row 1792 1280 0)
+    (cond (eqb code 5) (row 4260864 66560 0)
+    (cond (eqb code 6) (row 8520704 132096 0)
+    (row 1024 0 0)))))))

@@ -1,0 +1,85 @@
+-- An event that isn't possible is idle; any other is applied, and its reaction is placed. Assumes nothing.
+use native.Mathlib.Omega.{arith}
+use borrow.Author.Needs.{needs}
+use Rattle.machine.proofs.Refusals.{image-fine, process-few, record-within}
+use Rattle.place.proofs.Ways.{may-test, idle-done, may-apply, may-place, moved-done}
+use Rattle.place.proofs.perform.Statement.{statement}
+use Rattle.place.proofs.perform.Tie as tie
+
+at-requires : tie.Need-at-requires
+at-requires c κs =
+    let start = c .before .before in
+    let s = start .args .image .now in
+    let i = start .args .event .process in
+    (process-few s i (start .pre .fine) (start .pre .below), record-within s i (start .pre .fine) (start .pre .below))
+
+is-possible-requires : tie.Need-is-possible-requires
+is-possible-requires c κs =
+    let known = c .before .before in
+    may-test (λ k. omega (arith, known .slice-known .given k)) (known .before .pre) (c .at .ensures)
+
+same-length : tie.Need-same-length
+same-length c = search needs
+
+returns : tie.Need-returns
+returns c =
+    let tested = c .before in
+    let known = tested .before .before .before in
+    idle-done (λ k. omega (arith, known .slice-known .given k)) (known .before .pre) (tested .before .at .ensures)
+    (tested .is-possible .ensures) (c .if1 .taken)
+
+of-requires : tie.Need-of-requires
+of-requires c κs =
+    let start = c .before .before .before .before .before .before in
+    image-fine (start .args .image .now) (start .pre .fine) .header
+
+apply-requires : tie.Need-apply-requires
+apply-requires c κs =
+    let left = c .before .before in
+    let tested = left .before in
+    let known = tested .before .before .before in
+    may-apply (λ k. omega (arith, known .slice-known .given k)) (known .before .pre) (tested .before .at .ensures)
+    (tested .is-possible .ensures) (left .if1 .left) (c .of .ensures)
+
+size-requires : tie.Need-size-requires
+size-requires c κs = search needs
+
+place-requires : tie.Need-place-requires
+place-requires c κs =
+    let applied = c .before .before in
+    let left = applied .before .before .before in
+    let tested = left .before in
+    let known = tested .before .before .before in
+    may-place (λ k. omega (arith, known .slice-known .given k)) (known .before .pre) (tested .before .at .ensures)
+    (tested .is-possible .ensures) (left .if1 .left) (applied .before .of .ensures) (applied .apply .ensures)
+    (c .before .size .ensures)
+
+same-length-2 : tie.Need-same-length-2
+same-length-2 c = search needs
+
+returns-2 : tie.Need-returns-2
+returns-2 c =
+    let placed = c .before .before in
+    let sized = placed .before .before in
+    let applied = sized .before in
+    let left = applied .before .before .before in
+    let tested = left .before in
+    let known = tested .before .before .before in
+    moved-done (λ k. omega (arith, known .slice-known .given k)) (known .before .pre) (tested .before .at .ensures)
+    (tested .is-possible .ensures) (left .if1 .left) (applied .before .of .ensures) (applied .apply .ensures)
+    (sized .size .ensures) (placed .place .ensures)
+
+pub perform-spec : {M : Type 1} → statement M
+perform-spec =
+    tie.close
+    (tie.spec
+    at-requires
+    is-possible-requires
+    same-length
+    returns
+    of-requires
+    apply-requires
+    size-requires
+    place-requires
+    same-length-2
+    returns-2)

@@ -1,0 +1,57 @@
+-- What must be known before a reaction is written and before an event is performed, and what is then so. Assumes nothing.
+use Prim.Native.Nat.{ℕ, _+_, _*_, _%_, _^_, _≤_, _<_}
+use mathlib.Core.Path.{_≡_}
+use mathlib.Core.Bool.{not, _&&_}
+use mathlib.Core.List.{List}
+use lib.Dec.{eqb}
+use Rattle.machine.specs.declared.Outcome.{Outcome}
+use Rattle.machine.specs.declared.Verdict.the-variants.{Fine}
+use Rattle.machine.specs.Bytes.{bit}
+use Rattle.machine.specs.Image.{State, sizeIn, stateIn}
+use Rattle.machine.specs.Events as rule
+use Rattle.machine.specs.Run.{outcomeNumber}
+use Rattle.machine.specs.Refusals.{imageVerdict}
+use Rattle.event.specs.declared.Event.{Event}
+use Rattle.event.specs.declared.Reaction.{Reaction}
+use Rattle.event.specs.Parsed.{ruled}
+use Rattle.event.specs.Reaction.{shown, Fits}
+use Rattle.place.specs.declared.Done.{Done}
+
+-- ---- a reaction written
+
+-- an accepted image of n processes, and a reaction at one of them whose header keeps N
+pub record Placeable (s : List ℕ) (n i : ℕ) (r : Reaction) : Type 0 where
+  pub fine : imageVerdict s ≡ Fine
+  pub size : n ≡ sizeIn s
+  pub below : i < n
+  pub fits : Fits r
+  pub kept : r .header .word % 256 ≡ sizeIn s
+
+-- the state with the reaction placed on it by the rule
+abbrev pub placed : List ℕ → ℕ → Reaction → State
+placed s i r =
+    record {
+      envelope = shown r .envelope;
+      processes = rule.place (stateIn s .processes) i (shown r);
+    }
+
+-- ---- an event performed
+
+-- an accepted image, and one of the eight events at a process of it
+pub record Performable (s : List ℕ) (event : Event) : Type 0 where
+  pub fine : imageVerdict s ≡ Fine
+  pub below : event .process < sizeIn s
+  pub code : event .code < 8
+  pub message : event .message < 2 ^ 32
+  pub silent : (event .code ≡ 0 → ⊥) → event .message ≡ 0
+
+-- what an event counts as started, in a byte of its own: a put in the seventh, a get in the eighth
+abbrev pub startedAs : ℕ → Outcome → ℕ
+startedAs code o =
+    281474976710656 * bit (eqb code 0 && not (eqb (outcomeNumber o) 0))
+    + 72057594037927936 * bit (eqb code 1 && not (eqb (outcomeNumber o) 0))
+
+-- the outcome is the rule's, and a start counts
+pub record Performed (s : List ℕ) (event : Event) (r : Done) : Type 0 where
+  pub said : r .outcome ≡ rule.outcome (stateIn s) (ruled event)
+  pub counts : r .started ≡ startedAs (event .code) (r .outcome)

@@ -1,3 +1,0 @@
--- What this crate's contracts cite beside the rules.
-pub mod Possible
-pub mod Quick

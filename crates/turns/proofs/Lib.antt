@@ -1,0 +1,4 @@
+-- Laws that the functions of this crate cite, and that its callers need.
+pub mod Packed
+pub mod Going
+pub mod Ways
