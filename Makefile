@@ -7,13 +7,15 @@
 #
 # make bench: the proved library and plain Rust, timed side by side on this machine (docs/PERFORMANCE.md).
 #
+# make count: the instructions of an event and of a call on either side, by callgrind; it needs valgrind.
+#
 # rt ci's output is kept in a file outside target/, which rt ci removes, so that its exit status is not lost in a pipe.
 # RING_HOST_DIR would have the package link an archive from elsewhere, so it is unset. A test that is ignored because an
 # archive isn't there fails here.
 
 SHELL := /bin/sh
 IN = samples/entry-01.in
-.PHONY: test run bench
+.PHONY: test run bench count
 
 test:
 	@set -eu; \
@@ -42,3 +44,9 @@ bench:
 	rt staticlib ring_host; \
 	cd host; \
 	cargo bench --offline
+
+count:
+	@set -eu; \
+	unset RING_HOST_DIR; \
+	rt staticlib ring_host; \
+	host/benches/count
