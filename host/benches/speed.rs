@@ -22,6 +22,8 @@ mod table;
 mod tapes;
 #[path = "speed/timing.rs"]
 mod timing;
+#[path = "speed/used.rs"]
+mod used;
 
 use table::Table;
 use timing::Effort;

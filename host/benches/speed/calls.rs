@@ -5,10 +5,10 @@
 
 use crate::guide::{self, Random};
 use crate::plain;
-use crate::runs::used_image;
 use crate::sides::{same, Side, PLAIN, SETS};
 use crate::table::{Table, Unit};
 use crate::timing::{by_turns, Effort, Spent};
+use crate::used::used_image;
 use std::hint::black_box;
 
 const SIZES: [u64; 3] = [2, 8, 64];

@@ -9,6 +9,7 @@ use crate::guide::{self, Random};
 use crate::sides::{same, Side, PLAIN};
 use crate::table::{Table, Unit};
 use crate::timing::{by_turns, Effort, Medians, Spent};
+use crate::used::used_image;
 use std::hint::black_box;
 
 const SIZES: [u64; 3] = [2, 8, 64];
@@ -147,14 +148,4 @@ struct Seen {
     image: Vec<u8>,
     ledger: Vec<u8>,
     result: Vec<u8>,
-}
-
-/// The image of a ring that has been in use.
-pub fn used_image(n: u64, random: &mut Random) -> Vec<u8> {
-    let mut image = guide::fresh(n, 0);
-    let list = guide::guided(&image, 4_000, random);
-    for event in list.chunks_exact(8) {
-        assert_eq!(crate::plain::ring_step::<0>(&mut image, event, &mut [0; 80]), 0);
-    }
-    image
 }

@@ -2,18 +2,21 @@
 //! `counted_run`, `counted_step` or `counted_stopped`. `benches/count` has it run under callgrind and prints what it
 //! counted, for an event or a call.
 
-#[path = "../guide/mod.rs"]
+#[path = "../../guide/mod.rs"]
 mod guide;
-#[path = "../plain/mod.rs"]
+#[path = "../../plain/mod.rs"]
 mod plain;
 // It has a comparison that isn't made here.
 #[allow(dead_code)]
-#[path = "speed/sides.rs"]
+#[path = "../../benches/speed/sides.rs"]
 mod sides;
+#[path = "../../benches/speed/used.rs"]
+mod used;
 
 use guide::Random;
 use sides::{Side, PLAIN, RATTLE, SETS};
 use std::hint::black_box;
+use used::used_image;
 
 /// As many as `benches/count` divides by.
 const CALLS: usize = 4_096;
@@ -67,14 +70,4 @@ fn counted_step(side: &Side, image: &mut [u8], event: &[u8], result: &mut [u8]) 
 #[inline(never)]
 fn counted_stopped(side: &Side, image: &[u8], result: &mut [u8]) {
     assert_eq!((black_box(side).stopped)(image, result), 0);
-}
-
-/// The image of a ring that has been in use.
-fn used_image(n: u64, random: &mut Random) -> Vec<u8> {
-    let mut image = guide::fresh(n, 0);
-    let list = guide::guided(&image, 4_000, random);
-    for event in list.chunks_exact(8) {
-        assert_eq!(plain::ring_step::<0>(&mut image, event, &mut [0; 80]), 0);
-    }
-    image
 }
