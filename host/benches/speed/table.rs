@@ -13,7 +13,7 @@ pub enum Unit {
 /// The lines printed so far, those with a factor to be printed at the end, and the filter.
 pub struct Table {
     filter: String,
-    ratios: Vec<f64>,
+    ratios: Vec<(String, f64)>,
     growth: Vec<(String, Medians, Medians)>,
 }
 
@@ -35,7 +35,7 @@ impl Table {
     /// Prints a line, with a remark.
     pub fn line(&mut self, name: &str, unit: Unit, taken: Medians, remark: &str) {
         print(name, unit, taken, remark);
-        self.ratios.push(taken.ratio);
+        self.ratios.push((name.to_string(), taken.ratio));
     }
 
     /// Prints the line before once more beside another baseline; it doesn't count in the mean.
@@ -58,13 +58,23 @@ impl Table {
             let (rattle, plain) = (many.rattle / few.rattle, many.plain / few.plain);
             println!("{name:<36} {:>10} {rattle:>10.2} {plain:>10.2}", "");
         }
-        if !self.ratios.is_empty() {
-            let logs: f64 = self.ratios.iter().map(|ratio| ratio.ln()).sum();
-            let least = self.ratios.iter().copied().fold(f64::INFINITY, f64::min);
-            let mean = (logs / self.ratios.len() as f64).exp();
-            println!();
-            println!("{} lines: ratio {mean:.2} in the geometric mean, {least:.2} at least", self.ratios.len());
+        println!();
+        for kind in ["guided", "uniform", ""] {
+            self.summary(kind);
         }
+    }
+
+    /// Prints the mean and the least of the ratios of lines of a kind; all lines are of kind "".
+    fn summary(&self, kind: &str) {
+        let of_kind = self.ratios.iter().filter(|(name, _)| name.contains(kind));
+        let ratios: Vec<f64> = of_kind.map(|(_, ratio)| *ratio).collect();
+        if ratios.is_empty() {
+            return;
+        }
+        let mean = (ratios.iter().map(|ratio| ratio.ln()).sum::<f64>() / ratios.len() as f64).exp();
+        let least = ratios.iter().copied().fold(f64::INFINITY, f64::min);
+        let lines = if kind.is_empty() { "lines".to_string() } else { format!("{kind} lines") };
+        println!("{} {lines}: ratio {mean:.2} in the geometric mean, {least:.2} at least", ratios.len());
     }
 }
 
