@@ -12,7 +12,7 @@ use Rattle.machine.specs.Fields.{for}
 use Rattle.machine.specs.Events.{putAt, react}
 use Rattle.record.specs.declared.process.Record.{Record}
 use Rattle.record.specs.declared.header.Header.{Header}
-use Rattle.record.specs.Words.{stageOf, shownProcess, shownEnvelope, Tidy, TidyHeader}
+use Rattle.record.specs.Words.{stageOf, shownProcess, shownEnvelope, Tidy}
 use Rattle.event.specs.declared.Event.{Event}
 use Rattle.event.specs.declared.Row.{Row}
 use Rattle.event.specs.declared.Reaction.{Reaction}
@@ -39,8 +39,8 @@ module _ {v : Event} {header : Header} {own : Record} {row : Row} (known : Appli
       (next (v .message) (own .word) (shownEnvelope header) (known .message) (known .tidy) (known .stage) (v .code)
       (known .code) (known .silent) (known .moves))
 
-  pub in-order : Tidy word × TidyHeader header
-  in-order = (stepped .tidy, known .header-tidy)
+  pub word-tidy : Tidy word
+  word-tidy = stepped .tidy
 
   pub word-fits : word < 2 ^ 64
   word-fits = omega (arith, stepped .tidy .note)
@@ -55,15 +55,16 @@ module _ {v : Event} {header : Header} {own : Record} {row : Row} (known : Appli
   begin-fits : Fits begin
   begin-fits = record { own = stepped .tidy; header = known .header-tidy; asks = lit< tt }
 
-  pub begun : {r : Reaction} → r ≡ begin → Begun r × Counted r
-  begun is =
-      rw is (
-        record { fits = begin-fits; here = refl },
-        record {
-          room = known .ready .room;
-          counted = λ s marked. known .ready .counted s (ap (λ m. for m s) (sym (stepped .marks)) ∙ marked);
-        },
-      )
+  pub begun : {r : Reaction} → r ≡ begin → Begun r
+  begun is = rw is (record { fits = begin-fits; here = refl })
+
+  pub still-counted : {r : Reaction} → r ≡ begin → Counted r
+  still-counted is =
+      rw is
+      (record {
+        room = known .ready .room;
+        counted = λ s marked. known .ready .counted s (ap (λ m. for m s) (sym (stepped .marks)) ∙ marked);
+      })
 
   -- ---- what came of it
 

@@ -9,10 +9,10 @@ use lib.Dec.{eqb}
 use Rattle.machine.specs.declared.Pair.{Pair}
 use Rattle.machine.specs.Bytes.{bitOf}
 use Rattle.machine.specs.Lists.{every}
-use Rattle.machine.specs.Fields.{Status, full, empty, none, for, with, either}
-use Rattle.machine.specs.Image.{pairOf}
-use Rattle.machine.proofs.Lists.{alike, agree}
-use Rattle.record.proofs.Pairs.{samePair, pair-test, Pairs, at, Same, by-test}
+use Rattle.machine.specs.Fields.{Status, full, empty, none, for, with, either, processOf}
+use Rattle.machine.specs.Image.{pairOf, processFrom}
+use Rattle.machine.proofs.Lists.{every-at, alike, agree, and-first, and-second}
+use Rattle.record.proofs.Pairs.{samePair, pair-test, Pairs, at, same, by-test}
 use Rattle.event.specs.Reaction.{pairFor}
 
 -- ---- a header's markers
@@ -56,49 +56,39 @@ heeded m r h =
 
 -- ---- what leaves with the envelope
 
--- byte 1 without have
-pub record Away (flags byte : ℕ) : Type 0 where
-  pub have : bitOf byte 0 ≡ false
-  pub arriving : bitOf byte 1 ≡ bitOf flags 1
-  pub news : bitOf byte 2 ≡ bitOf flags 2
-
-pub away : (flags : ℕ) → flags < 256 → Away flags (bitAnd flags 254)
+-- have, and in byte 2 all four asked bits
+pub gone-along : (stage flags requests note : ℕ) → flags < 256 → requests < 256
+    → processFrom stage (bitAnd flags 254) (bitAnd requests 240) note
+    ≡ processOf stage false (bitOf flags 1) (bitOf flags 2) none none (pairOf requests 4) (pairOf requests 6) note
 unfolding every
-away flags h =
-    record {
-      have = alike 256 (λ k. bitOf (bitAnd k 254) 0) (λ _. false) refl flags h;
-      arriving = alike 256 (λ k. bitOf (bitAnd k 254) 1) (λ k. bitOf k 1) refl flags h;
-      news = alike 256 (λ k. bitOf (bitAnd k 254) 2) (λ k. bitOf k 2) refl flags h;
-    }
-
--- all four asked bits off
-pub unasked : (r : ℕ) → r < 256 → Pairs (bitAnd r 240) none none (pairOf r 4) (pairOf r 6)
-unfolding every
-unasked = by-test (λ k. bitAnd k 240) (λ _. none) (λ _. none) (at 4) (at 6) (refl, refl, refl, refl)
+gone-along stage flags requests note byte byte-2 =
+    let have = alike 256 (λ k. bitOf (bitAnd k 254) 0) (λ _. false) refl flags byte in
+    let arriving = alike 256 (λ k. bitOf (bitAnd k 254) 1) (λ k. bitOf k 1) refl flags byte in
+    let news = alike 256 (λ k. bitOf (bitAnd k 254) 2) (λ k. bitOf k 2) refl flags byte in
+    by-test (λ k. bitAnd k 240) (λ _. none) (λ _. none) (at 4) (at 6) refl requests byte-2 stage (bitAnd flags 254) note
+    ∙ rw (have, arriving, news)
 
 -- ---- a mark set, and off
 
 -- only the mark changes, by the status that it is for
-by-mark : (f : Status → ℕ → ℕ) (mark : Status → ℕ → Pair) → Same (f true) (at 0) (at 2) (mark true) (at 6)
-    → Same (f false) (at 0) (at 2) (mark false) (at 6)
+by-mark : (f : Status → ℕ → ℕ) (mark : Status → ℕ → Pair)
+    → same (f true) (at 0) (at 2) (mark true) (at 6) && same (f false) (at 0) (at 2) (mark false) (at 6) ≡ true
     → (s : Status) (r : ℕ) → r < 256
     → Pairs (f s r) (pairOf r 0) (pairOf r 2) (mark s r) (pairOf r 6)
-by-mark f mark for-full for-empty true = by-test (f true) (at 0) (at 2) (mark true) (at 6) for-full
-by-mark f mark for-full for-empty false = by-test (f false) (at 0) (at 2) (mark false) (at 6) for-empty
+by-mark f mark test true = by-test (f true) (at 0) (at 2) (mark true) (at 6) (and-first _ _ test)
+by-mark f mark test false =
+    by-test (f false) (at 0) (at 2) (mark false) (at 6)
+    (and-second (same (f true) (at 0) (at 2) (mark true) (at 6)) _ test)
 
 pub marked : (s : Status) (r : ℕ) → r < 256
     → Pairs (bitOr r (pairFor s * 16)) (pairOf r 0) (pairOf r 2) (with (pairOf r 4) s true) (pairOf r 6)
 unfolding every
-marked =
-    by-mark (λ s k. bitOr k (pairFor s * 16)) (λ s k. with (pairOf k 4) s true) (refl, refl, refl, refl)
-    (refl, refl, refl, refl)
+marked = by-mark (λ s k. bitOr k (pairFor s * 16)) (λ s k. with (pairOf k 4) s true) refl
 
 pub unmarked : (s : Status) (r : ℕ) → r < 256
     → Pairs (bitAnd r (255 - pairFor s * 16)) (pairOf r 0) (pairOf r 2) (with (pairOf r 4) s false) (pairOf r 6)
 unfolding every
-unmarked =
-    by-mark (λ s k. bitAnd k (255 - pairFor s * 16)) (λ s k. with (pairOf k 4) s false) (refl, refl, refl, refl)
-    (refl, refl, refl, refl)
+unmarked = by-mark (λ s k. bitAnd k (255 - pairFor s * 16)) (λ s k. with (pairOf k 4) s false) refl
 
 -- a number made of a byte and a status
 by-number : (f g : Status → ℕ → ℕ) → every 256 (λ k. eqb (f true k) (g true k)) ≡ true
@@ -134,28 +124,30 @@ wantedBy wish r = either (pairOf r 0) (pairOf wish 0)
 abbrev pub unless : Pair → Pair → Pair
 unless p q = record { full = p .full && not (q .full); empty = p .empty && not (q .empty) }
 
--- byte 2 with it asked for, and what of it wasn't
+-- byte 2 with it asked for, and what of it wasn't, as bits and as pairs
 abbrev passes : ℕ → ℕ → ℕ
 passes wish r = bitOr r (wantedIn wish r * 4)
+
+abbrev itselfWith : ℕ → ℕ → Pair
+itselfWith wish r = either (pairOf r 2) (wantedBy wish r)
 
 abbrev asks : ℕ → ℕ → Pair
 asks wish r = pairOf (bitAnd (wantedIn wish r) (3 - r / 4 % 4)) 0
 
--- at every value, for every wish
-pass-test : (wish : ℕ) → wish < 3
-    → Same (passes wish) (at 0) (λ k. either (pairOf k 2) (wantedBy wish k)) (at 4) (at 6)
-    × (every 256 (λ k. samePair (asks wish k) (unless (wantedBy wish k) (pairOf k 2))) ≡ true)
-unfolding every
-pass-test zero few = ((refl, refl, refl, refl), refl)
-pass-test (suc zero) few = ((refl, refl, refl, refl), refl)
-pass-test (suc (suc zero)) few = ((refl, refl, refl, refl), refl)
-pass-test (suc (suc (suc n))) few = absurd (omega arith)
+abbrev asksWith : ℕ → ℕ → Pair
+asksWith wish r = unless (wantedBy wish r) (pairOf r 2)
 
 module _ (wish : ℕ) (few : wish < 3) (r : ℕ) (h : r < 256) where
   pub passed : Pairs (passes wish r) (pairOf r 0) (either (pairOf r 2) (wantedBy wish r)) (pairOf r 4) (pairOf r 6)
+  unfolding every
   passed =
-      by-test (passes wish) (at 0) (λ k. either (pairOf k 2) (wantedBy wish k)) (at 4) (at 6) (pass-test wish few .0)
+      by-test (passes wish) (at 0) (itselfWith wish) (at 4) (at 6)
+      (every-at 3 (λ n. same (passes n) (at 0) (itselfWith n) (at 4) (at 6)) refl wish few)
       r h
 
   pub asks-are : asks wish r ≡ unless (wantedBy wish r) (pairOf r 2)
-  asks-are = pair-test (asks wish) (λ k. unless (wantedBy wish k) (pairOf k 2)) (pass-test wish few .1) r h
+  unfolding every
+  asks-are =
+      pair-test (asks wish) (asksWith wish)
+      (every-at 3 (λ n. every 256 (λ k. samePair (asks n k) (asksWith n k))) refl wish few)
+      r h

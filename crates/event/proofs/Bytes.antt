@@ -1,7 +1,7 @@
 -- An event's bytes as code reads and tests them give the rule's event and the rule's test: each is read where the rule
 -- reads it. Assumes nothing.
 use Prim.Native.Nat.{ℕ, _+_}
-use mathlib.Core.Path.{_≡_, refl, sym, _∙_}
+use mathlib.Core.Path.{_≡_, sym, _∙_}
 use mathlib.Core.List.{List}
 use mathlib.Core.Bool.{Bool, true, false, _&&_, _||_}
 use native.Mathlib.Omega.{arith}
@@ -16,10 +16,6 @@ use Rattle.machine.proofs.Bytes.{zeros-2, zeros-number}
 use Rattle.event.specs.declared.Parsed.the-variants.{Done, Refused}
 use Rattle.event.specs.declared.Event.{Event}
 use Rattle.event.specs.Parsed.{eventOf, parsedAs}
-
-pub or-true : (b : Bool) → true ≡ b || true
-or-true true = refl
-or-true false = refl
 
 module _ (s : List ℕ) (at : ℕ) {process message : ℕ} (first : process ≡ getD s at 0)
     (last : message ≡ number s (at + 4) 4) where

@@ -1,14 +1,11 @@
 -- Forward, on words: what the right has asked for sets its markers; then the envelope leaves, and have and all asked
 -- bits go off, or it stays. Assumes nothing.
-use Prim.Native.Nat.{ℕ, _*_, _%_, _<_}
+use Prim.Native.Nat.{ℕ, _*_, _%_, _≤_, _<_}
 use mathlib.Core.Path.{_≡_, refl, sym, ap, _∙_}
 use mathlib.Core.Bool.{Bool, true, false}
 use native.Mathlib.Omega.{arith}
 use lib.Bits.{bitAnd, bitOr, or-lt, and-le-l}
 use lib.Dec.{eqb}
-use Rattle.machine.specs.declared.Pair.{Pair}
-use Rattle.machine.specs.Bytes.{bitOf}
-use Rattle.machine.specs.Fields.{none, processOf}
 use Rattle.machine.specs.Image.{pairOf, processFrom}
 use Rattle.machine.specs.Events as rule
 use Rattle.record.specs.declared.process.Record.{Record}
@@ -17,20 +14,11 @@ use Rattle.record.specs.Words.{stageOf, flagsOf, requestsOf, spareOf, noteOf, a
 use Rattle.record.specs.Words.{shownProcess, shownEnvelope, TidyHeader}
 use Rattle.record.proofs.Fields.{Fields, shows, is-tidy, set-in-2, off-in, all-ones, asked-in}
 use Rattle.record.proofs.Headers.{shows-envelope, is-tidy-header}
-use Rattle.record.proofs.Pairs.{Pairs}
 use Rattle.event.specs.declared.Reach.the-variants.{Right}
 use Rattle.event.specs.declared.Reaction.{Reaction}
 use Rattle.event.specs.Reaction.{asksIn, shown, Begun, Makes}
-use Rattle.event.proofs.Bits.{heeded, Away, away, unasked}
-use Rattle.event.proofs.Made.{seen}
-
--- a record that the envelope left
-away-from : (stage note : ℕ) {flags new byte : ℕ} {mark link : Pair} → Away flags new → Pairs byte none none mark link
-    → processFrom stage new byte note
-    ≡ processOf stage false (bitOf flags 1) (bitOf flags 2) none none mark link note
-away-from stage note f p =
-    λ i. processOf stage (f .have i) (f .arriving i) (f .news i) (p .asked-is i) (p .itself-is i) (p .mark-is i)
-    (p .link-is i) note
+use Rattle.event.proofs.Bits.{heeded, gone-along}
+use Rattle.event.proofs.Made.{turned, seen}
 
 module _ (r : Reaction) (begun : Begun r) {asked : ℕ} (asked-is : asked ≡ askedOf (r .own .word)) {heeding : Header}
     (word : heeding .word ≡ bitOr (r .header .word) (asked * 65536))
@@ -72,13 +60,7 @@ module _ (r : Reaction) (begun : Begun r) {asked : ℕ} (asked-is : asked ≡ as
     tested = ap rule.wanted (sym heeding-shows) ∙ sym test
 
     pub forward-leaves : wanted ≡ true → {own : Record} → own .word ≡ bitAnd w 18446744073708568319
-        → Makes rule.forward r (record {
-          own = own;
-          header = heeding;
-          reach = Right;
-          started = r .started;
-          outcome = r .outcome;
-        })
+        → Makes rule.forward r (turned r own heeding Right (r .outcome))
     unfolding rule.forward rule.heeding rule.leave
     forward-leaves is {own} off =
         let fits = begun .fits in
@@ -89,7 +71,9 @@ module _ (r : Reaction) (begun : Begun r) {asked : ℕ} (asked-is : asked ≡ as
         let made =
         shows f
         ∙ ap (processFrom (stageOf w) (bitAnd (flagsOf w) 254) (bitAnd (requestsOf w) 240)) note
-        ∙ away-from (stageOf w) (noteOf w) (away (flagsOf w) (omega arith)) (unasked (requestsOf w) (omega arith)) in
+        ∙ gone-along (stageOf w) (flagsOf w) (requestsOf w) (noteOf w) (omega arith) (omega arith) in
+        let flags : bitAnd (flagsOf w) 254 ≤ 7 = omega (arith, and-le-l (flagsOf w) 254, fits .own .flags) in
+        let tidy = is-tidy f flags (fits .own .spare) (rw note (fits .own .note)) in
         record {
           shows =
               rw (tested ∙ is)
@@ -100,31 +84,17 @@ module _ (r : Reaction) (begun : Begun r) {asked : ℕ} (asked-is : asked ≡ as
                 leaves = true;
                 outcome = r .outcome;
               });
-          fits =
-              record {
-                own =
-                    is-tidy f (omega (arith, and-le-l (flagsOf w) 254, fits .own .flags)) (fits .own .spare)
-                    (rw note (fits .own .note));
-                header = heeding-tidy;
-                asks = omega arith;
-              };
+          fits = record { own = tidy; header = heeding-tidy; asks = omega arith };
           size = heeding-fields .stage-is;
           started = refl;
         }
 
     pub forward-stays : wanted ≡ false
-        → Makes rule.forward r (record {
-          own = r .own;
-          header = heeding;
-          reach = r .reach;
-          started = r .started;
-          outcome = r .outcome;
-        })
+        → Makes rule.forward r (turned r (r .own) heeding (r .reach) (r .outcome))
     unfolding rule.forward rule.heeding
     forward-stays is =
         record {
-          shows =
-              rw (tested ∙ is) (ap (seen (r .reach) (r .outcome) (shownProcess w)) heeding-shows);
+          shows = rw (tested ∙ is) (ap (seen (r .reach) (r .outcome) (shownProcess w)) heeding-shows);
           fits = record { own = begun .fits .own; header = heeding-tidy; asks = begun .fits .asks };
           size = heeding-fields .stage-is;
           started = refl;

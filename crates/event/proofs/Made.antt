@@ -7,11 +7,17 @@ use Rattle.machine.specs.declared.Outcome.{Outcome}
 use Rattle.machine.specs.Fields.{withStage}
 use Rattle.machine.specs.Image.{pairOf}
 use Rattle.record.specs.declared.process.Record.{Record}
+use Rattle.record.specs.declared.header.Header.{Header}
 use Rattle.record.specs.Words.{flagsOf, requestsOf, spareOf, noteOf, shownEnvelope}
 use Rattle.record.proofs.Fields.{Fields, shows, is-tidy, at-stage}
 use Rattle.event.specs.declared.Reach.{Reach}
 use Rattle.event.specs.declared.Reaction.{Reaction}
 use Rattle.event.specs.Reaction.{Ruled, asksIn, leavesIn, shown, Fits, Makes}
+
+-- r with another record, header, reach and outcome
+abbrev pub turned : Reaction → Record → Header → Reach → Outcome → Reaction
+turned r own header reach outcome =
+    record { own = own; header = header; reach = reach; started = r .started; outcome = outcome }
 
 -- ---- made by the rule
 
@@ -58,19 +64,15 @@ pub restaged : (r : Reaction) → Fits r → (stage : ℕ) → stage < 256 → (
       asks = x .asks;
       leaves = x .leaves;
       outcome = outcome;
-    }) r (record { own = own; header = r .header; reach = r .reach; started = r .started; outcome = outcome })
+    }) r (turned r own (r .header) (r .reach) outcome)
 restaged r fits stage byte outcome {own} word =
     let w = r .own .word in
     let f : Fields (own .word) stage (flagsOf w) (requestsOf w) (spareOf w) (noteOf w) =
     rw word (at-stage w stage byte) in
+    let tidy = is-tidy f (fits .own .flags) (fits .own .spare) (fits .own .note) in
     record {
       shows = ap (λ p. seen (r .reach) outcome p (shownEnvelope (r .header))) (shows f);
-      fits =
-          record {
-            own = is-tidy f (fits .own .flags) (fits .own .spare) (fits .own .note);
-            header = fits .header;
-            asks = fits .asks;
-          };
+      fits = record { own = tidy; header = fits .header; asks = fits .asks };
       size = refl;
       started = refl;
     }

@@ -17,21 +17,20 @@ use Rattle.machine.specs.Events as rule
 use Rattle.record.specs.declared.process.Record.{Record}
 use Rattle.record.specs.declared.header.Header.{Header}
 use Rattle.record.specs.Words.{stageOf, flagsOf, requestsOf, spareOf, noteOf, marksOf, fullOf, shownEnvelope, countedAs}
-use Rattle.record.proofs.Fields.{Fields, shows, is-tidy, fields-of, set-in-2, off-in-2, off-from, marks-in}
+use Rattle.record.proofs.Fields.{Fields, shows, is-tidy, fields-of, set-in-2, off-in-2, marks-in}
 use Rattle.record.proofs.Headers.{envelopeFrom, shows-envelope, is-tidy-header, counts-up, counts-down, counts-there}
 use Rattle.record.proofs.Headers.{full-is}
-use Rattle.record.proofs.Pairs.{by-pairs}
 use Rattle.event.specs.declared.Reaction.{Reaction}
 use Rattle.event.specs.Reaction.{Ruled, shown, Fits, Counted, Makes, pairFor}
 use Rattle.event.proofs.Bits.{marker-off, marked, unmarked, missing, standing}
-use Rattle.event.proofs.Made.{likewise, stays, seen}
+use Rattle.event.proofs.Made.{turned, likewise, stays, seen}
 
 -- ---- counts, one more and one fewer
 
 -- one of two bits
-pub pair-few : (s : Status) → pairFor s < 3
-pair-few true = omega arith
-pair-few false = omega arith
+pub pair-few : (s : Status) {pair : ℕ} → pair ≡ pairFor s → pair < 3
+pair-few true is = omega arith
+pair-few false is = omega arith
 
 abbrev counts : ℕ → ℕ → Marked
 counts f e = record { full = f; empty = e }
@@ -95,8 +94,7 @@ module _ (r : Reaction) (fits : Fits r) (counted : Counted r) where
 
   -- other words, and the rest as it is
   abbrev becoming : Record → Header → Reaction
-  becoming own header =
-      record { own = own; header = header; reach = r .reach; started = r .started; outcome = r .outcome }
+  becoming own header = turned r own header (r .reach) (r .outcome)
 
   -- what these words show
   becoming-makes : (f : Ruled → Ruled) {own : Record} {header : Header}
@@ -115,18 +113,15 @@ module _ (r : Reaction) (fits : Fits r) (counted : Counted r) where
       message same =
       let known : Fields (own .word) (stageOf w) (flagsOf w) q (spareOf w) (noteOf w) = rw word new in
       let header-known : Fields (header .word) (stageOf h) (flagsOf h) markers fulls empties = rw header-word new-h in
+      let tidy = is-tidy known (fits .own .flags) (fits .own .spare) (fits .own .note) in
+      let fine =
+      is-tidy-header {h = header} header-known (fits .header .status) two small (rw message (fits .header .message)) in
       record {
         shows =
             ap₂ (seen (r .reach) (r .outcome)) (shows known)
             (shows-envelope header-known ∙ ap (envelopeFrom (flagsOf h) markers fulls empties) message)
             ∙ same;
-        fits =
-            record {
-              own = is-tidy known (fits .own .flags) (fits .own .spare) (fits .own .note);
-              header =
-                  is-tidy-header header-known (fits .header .status) two small (rw message (fits .header .message));
-              asks = fits .asks;
-            };
+        fits = record { own = tidy; header = fine; asks = fits .asks };
         size = header-known .stage-is;
         started = refl;
       }
@@ -145,11 +140,11 @@ module _ (r : Reaction) (fits : Fits r) (counted : Counted r) where
       (record { word = uncounted i; message = message i }) in
       subst (Makes (rule.markFor s) r) (sym same) (stays fits (rw is))
   mark-for s false is word sum message =
-      let few = pair-few s in
+      let few = pair-few s refl in
       let up : pairFor s * 1048576 ≡ pairFor s * 16 * 65536 = omega arith in
       let fulls : spareOf h + pairFor s % 2 < 256 = omega (arith, counted .room true) in
       let empties : noteOf h + pairFor s / 2 < 256 = omega (arith, counted .room false) in
-      let pairs = by-pairs (stageOf w) (flagsOf w) (noteOf w) (marked s byte (omega arith)) in
+      let pairs = marked s byte (omega arith) (stageOf w) (flagsOf w) (noteOf w) in
       becoming-makes (rule.markFor s) (word ∙ ap (bitOr w) up)
       (set-in-2 w (pairFor s * 16) (omega arith)) sum (counts-up (fields-of h) (pairFor s) fulls)
       (fits .header .markers) empties message
@@ -190,12 +185,13 @@ module _ (r : Reaction) (fits : Fits r) (counted : Counted r) where
     taken = rw (pair-is, marked-is ∙ marks-in w) (standing s byte (omega arith))
 
     -- it can be taken from the counts
-    pub clear-can : (bitAnd marked pair < 4) × (countedAs (bitAnd marked pair) ≤ h)
+    pub clear-few : bitAnd marked pair < 4
+    clear-few = omega (arith, and-le-r marked pair, pair-few s pair-is)
+
+    pub clear-can : countedAs (bitAnd marked pair) ≤ h
     clear-can =
-        let there = gone-there s (for marks s) refl in (
-          omega (arith, and-le-r marked pair, pair-is, pair-few s),
-          rw taken (counts-there (fields-of h) (gone s (for marks s)) (there .0) (there .1)),
-        )
+        let there = gone-there s (for marks s) refl in
+        rw taken (counts-there (fields-of h) (gone s (for marks s)) (there .0) (there .1))
 
     -- the mark is no longer counted, then the marker is off
     pub clear-made : {own : Record} {fewer-word message : ℕ} {header : Header}
@@ -206,18 +202,18 @@ module _ (r : Reaction) (fits : Fits r) (counted : Counted r) where
         → header .message ≡ message
         → Makes (rule.clear s) r (becoming own header)
     clear-made {fewer-word = less} word fewer-is kept off message =
-        let few = pair-few s in
+        let few = pair-few s refl in
         let there = gone-there s (for marks s) refl in
         let up : pair * 1048576 ≡ pairFor s * 16 * 65536 = omega arith in
-        let pairs = by-pairs (stageOf w) (flagsOf w) (noteOf w) (unmarked s byte (omega arith)) in
+        let pairs = unmarked s byte (omega arith) (stageOf w) (flagsOf w) (noteOf w) in
         let counted-less : Fields less (stageOf h) (flagsOf h) (requestsOf h) (spareOf h - gone s (for marks s) % 2)
         (noteOf h - gone s (for marks s) / 2) =
         rw (fewer-is ∙ ap (λ x. h - countedAs x) taken)
         (counts-down (fields-of h) (gone s (for marks s)) (there .0) (there .1)) in
         becoming-makes (rule.clear s) (word ∙ ap (λ x. bitAnd w (18446744073709551615 - x)) up)
-        (off-in-2 w (pairFor s * 16) (omega arith) (fits .own .note))
+        (off-in-2 (fields-of w) (pairFor s * 16) (omega arith) (fits .own .note))
         (off ∙ ap (λ x. bitAnd less (18446744073709551615 - x * 65536)) pair-is)
-        (off-from counted-less (pairFor s) (omega arith) (omega (arith, fits .header .counts)))
+        (off-in-2 counted-less (pairFor s) (omega arith) (omega (arith, fits .header .counts)))
         (omega (arith, and-le-l (requestsOf h) (255 - pairFor s), fits .header .markers))
         (omega (arith, fits .header .counts)) (message ∙ kept)
         ((λ i. seen (r .reach) (r .outcome) (pairs i)

@@ -21,6 +21,7 @@ use Rattle.machine.specs.Stages.{told}
 use Rattle.machine.specs.Events.{becomes, idle, startPut, startGet, work, signal, receive, hear, put, putAt, react}
 use Rattle.machine.proofs.Lists.{every-at, agree}
 use Rattle.machine.proofs.Bits.{process-is, flags-le}
+use Rattle.machine.proofs.Ways.{by-test}
 use Rattle.machine.proofs.Idle.{idles}
 use Rattle.record.specs.Words.{stageOf, flagsOf, requestsOf, spareOf, noteOf, shownProcess, Tidy}
 use Rattle.record.proofs.Fields.{Fields, shows, is-tidy, all-ones}
@@ -96,11 +97,6 @@ module _ (P : Reaction → Type 0) (e : Envelope) (p : Process) where
   by-done : (b : Bool) (x : Reaction) → idles (cond b x (idle e p)) ≡ false → (b ≡ true → P x) → P (cond b x (idle e p))
   by-done true x moves done = done refl
   by-done false x moves done = absurd (true≢false moves)
-
-  by-either : (a b : Bool) (x y : Reaction) → idles (cond a x (cond b y (idle e p))) ≡ false → (a ≡ true → P x)
-      → (b ≡ true → P y) → P (cond a x (cond b y (idle e p)))
-  by-either true b x y moves one other = one refl
-  by-either false b x y moves one other = by-done b y moves other
 
 module _ (message w : ℕ) (e : Envelope) (small : message < 2 ^ 32) (tidy : Tidy w) (low : stageOf w ≤ 10) where
   abbrev p : Process
@@ -193,11 +189,12 @@ module _ (message w : ℕ) (e : Envelope) (small : message < 2 ^ 32) (tidy : Tid
       (λ no h. by-done (Done 1) e p (eqb stage 0) _ h
       (λ is. shown-as 1 (omega arith) no (withStage 6 p) (omega (arith, eqb-true stage 0 is))
       (flags-as 1 same refl) (requests-as 1 same refl) refl refl refl))
-      (λ no h. by-either (Done 2) e p (eqb stage 3) (eqb stage 8) _ _ h
-      (λ is. shown-as 2 (omega arith) no (withStage 4 p) (omega (arith, eqb-true stage 3 is))
+      (λ no. by-test (λ r. idles r ≡ false → Done 2 r) (eqb stage 3) _ _
+      (λ is _. shown-as 2 (omega arith) no (withStage 4 p) (omega (arith, eqb-true stage 3 is))
       (flags-as 2 same refl) (requests-as 2 same refl) refl refl refl)
+      (λ _ h. by-done (Done 2) e p (eqb stage 8) _ h
       (λ is. shown-as 2 (omega arith) no (withStage 9 p) (omega (arith, eqb-true stage 8 is))
-      (flags-as 2 same refl) (requests-as 2 same refl) refl refl refl))
+      (flags-as 2 same refl) (requests-as 2 same refl) refl refl refl)))
       (λ no h. by-done (Done 3) e p (told stage) _ h
       (λ _. shown-as 3 (omega arith) no (withStage (stage + 1) (withNews true p)) refl
       (flags-as 3 (withNews true) refl) (requests-as 3 same refl) refl refl refl))

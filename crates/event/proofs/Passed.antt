@@ -16,12 +16,11 @@ use Rattle.record.specs.declared.process.Record.{Record}
 use Rattle.record.specs.Words.{stageOf, flagsOf, requestsOf, spareOf, noteOf, askedOf, itselfOf}
 use Rattle.record.specs.Words.{shownProcess, shownEnvelope}
 use Rattle.record.proofs.Fields.{Fields, shows, is-tidy, set-in-2, asked-in, itself-in}
-use Rattle.record.proofs.Pairs.{by-pairs}
 use Rattle.event.specs.declared.Reach.the-variants.{Left}
 use Rattle.event.specs.declared.Reaction.{Reaction}
 use Rattle.event.specs.Reaction.{Ruled, shown, Begun, Makes, asking}
 use Rattle.event.proofs.Bits.{wantedIn, wantedBy, unless, passed, asks-are}
-use Rattle.event.proofs.Made.{seen}
+use Rattle.event.proofs.Made.{turned, seen}
 
 -- ---- the rule's pass, at every pair of requests
 
@@ -101,13 +100,8 @@ module _ (r : Reaction) (begun : Begun r) (wish : ℕ) (few : wish < 3) where
 
   pub pass-made : {asked itself : ℕ} → asked ≡ askedOf w → itself ≡ itselfOf w → {own : Record}
       → own .word ≡ bitOr w (bitOr asked wish * 262144)
-      → Makes (λ x. rule.pass (asking wish x)) r (record {
-        own = own;
-        header = r .header;
-        reach = Left (bitAnd (bitOr asked wish) (3 - itself));
-        started = r .started;
-        outcome = r .outcome;
-      })
+      → Makes (λ x. rule.pass (asking wish x)) r
+      (turned r own (r .header) (Left (bitAnd (bitOr asked wish) (3 - itself))) (r .outcome))
   pass-made {asked} {itself} asked-is itself-is {own} word =
       let low : asked ≡ q % 4 = asked-is ∙ asked-in w in
       let high : itself ≡ q / 4 % 4 = itself-is ∙ itself-in w in
@@ -116,9 +110,13 @@ module _ (r : Reaction) (begun : Begun r) (wish : ℕ) (few : wish < 3) where
       ap (λ x. bitOr x wish * 262144) low ∙ omega arith in
       let f : Fields (own .word) (stageOf w) (flagsOf w) (bitOr q (wantedIn wish q * 4)) (spareOf w) (noteOf w) =
       rw (word, up) (set-in-2 w (wantedIn wish q * 4) (omega arith)) in
-      let made = shows f ∙ by-pairs (stageOf w) (flagsOf w) (noteOf w) (passed wish few q (omega arith)) in
+      let made = shows f ∙ passed wish few q (omega arith) (stageOf w) (flagsOf w) (noteOf w) in
       let asks : pairOf (bitAnd (bitOr asked wish) (3 - itself)) 0 ≡ unless (wantedBy wish q) (pairOf q 2) =
       rw (low, high) (asks-are wish few q (omega arith)) in
+      let few-asks : bitAnd (bitOr asked wish) (3 - itself) < 4 =
+      omega (arith, and-le-r (bitOr asked wish) (3 - itself)) in
+      let fits = begun .fits in
+      let tidy = is-tidy f (fits .own .flags) (fits .own .spare) (fits .own .note) in
       record {
         shows =
             (λ i. record {
@@ -131,12 +129,7 @@ module _ (r : Reaction) (begun : Begun r) (wish : ℕ) (few : wish < 3) where
             ∙ sym (rule-passes (r .outcome) (shownEnvelope (r .header)) (stageOf w) (noteOf w) (bitOf (flagsOf w) 0)
             (bitOf (flagsOf w) 1) (bitOf (flagsOf w) 2) (pairOf q 4) (pairOf q 6) wish few (pairOf q 0) (pairOf q 2))
             ∙ ap (λ x. rule.pass (asking wish x)) (sym (begun-shows r begun));
-        fits =
-            record {
-              own = is-tidy f (begun .fits .own .flags) (begun .fits .own .spare) (begun .fits .own .note);
-              header = begun .fits .header;
-              asks = omega (arith, and-le-r (bitOr asked wish) (3 - itself));
-            };
+        fits = record { own = tidy; header = fits .header; asks = few-asks };
         size = refl;
         started = refl;
       }

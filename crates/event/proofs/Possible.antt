@@ -5,7 +5,8 @@ use mathlib.Core.Path.{_≡_, refl, ap, _∙_}
 use mathlib.Core.Bool.{Bool, true, false, not, cond, _||_, Bool·beq}
 use native.Mathlib.Omega.{arith}
 use lib.Bits.{bitAnd, bitOr, or-zero-l, or-zero-r}
-use lib.Dec.{eqb}
+use lib.Dec.{eqb, ltb}
+use borrow.Author.Tests.{ltb-true}
 use Rattle.machine.specs.declared.Envelope.{Envelope}
 use Rattle.machine.specs.declared.Process.{Process}
 use Rattle.machine.specs.declared.Reaction.{Reaction}
@@ -15,10 +16,9 @@ use Rattle.machine.specs.Lists.{every}
 use Rattle.machine.specs.Fields.{withNews}
 use Rattle.machine.specs.Stages.{told}
 use Rattle.machine.specs.Events.{becomes, idle, startPut, startGet, work, signal, receive, hear, put, react}
-use Rattle.machine.proofs.Lists.{alike}
-use Rattle.machine.proofs.Bits.{bit-le}
+use Rattle.machine.proofs.Lists.{every-at, alike}
 use Rattle.machine.proofs.Idle.{idles, put-at-moves}
-use Rattle.record.specs.Words.{stageOf, flagsOf, requestsOf, shownProcess, Tidy}
+use Rattle.record.specs.Words.{stageOf, flagsOf, requestsOf, noteOf, shownProcess, Tidy}
 use Rattle.record.proofs.Fields.{Fields, wordOf, made-of, with-bits}
 use Rattle.record.proofs.Changes.{tested, in-field}
 use Rattle.event.specs.Rows.{Possible, openAt, codesAt, needOf}
@@ -49,14 +49,8 @@ module _ (w : ℕ) (tidy : Tidy w) (low : stageOf w ≤ 10) where
   bits = bitOr w (codesAt stage)
 
   codes-small : openAt stage < 256
-  codes-small =
-      omega (
-        arith,
-        bit-le (eqb stage 0),
-        bit-le (eqb stage 3 || eqb stage 8),
-        bit-le (told stage),
-        bit-le (eqb stage 15),
-      )
+  unfolding every
+  codes-small = ltb-true (openAt stage) 256 (every-at 11 (λ s. ltb (openAt s) 256) refl stage (omega arith))
 
   codes-in : Fields (codesAt stage) 0 0 0 (openAt stage) 0
   unfolding codesAt
@@ -64,15 +58,16 @@ module _ (w : ℕ) (tidy : Tidy w) (low : stageOf w ≤ 10) where
       let is : 2 ^ 24 * openAt stage ≡ wordOf 0 0 0 (openAt stage) 0 = omega arith in
       rw is (made-of 0 0 0 (openAt stage) 0 (omega arith) (omega arith) (omega arith) codes-small)
 
-  flags-in : flagsOf bits ≡ flagsOf w
-  flags-in = with-bits w codes-in .flags-is ∙ or-zero-r (flagsOf w)
-
-  requests-in : requestsOf bits ≡ requestsOf w
-  requests-in = with-bits w codes-in .requests-is ∙ or-zero-r (requestsOf w)
-
-  open-in : bits / 2 ^ 24 % 2 ^ 8 ≡ openAt stage
-  open-in =
-      with-bits w codes-in .spare-is ∙ ap (λ x. bitOr x (openAt stage)) (tidy .spare) ∙ or-zero-l (openAt stage)
+  bits-in : Fields bits stage (flagsOf w) (requestsOf w) (openAt stage) (noteOf w)
+  bits-in =
+      rw (
+        or-zero-r stage,
+        or-zero-r (flagsOf w),
+        or-zero-r (requestsOf w),
+        tidy .spare,
+        or-zero-l (openAt stage),
+        or-zero-r (noteOf w),
+      ) at (with-bits w codes-in)
 
   -- the test of a bit, in the field of i + 1 + k bits that it stands in
   reads : (j i k x : ℕ) → bits / 2 ^ j % 2 ^ (i + 1 + k) ≡ x → not (eqb (bitAnd bits (2 ^ (j + k))) 0) ≡ bitOf x k
@@ -83,7 +78,7 @@ module _ (w : ℕ) (tidy : Tidy w) (low : stageOf w ≤ 10) where
   opens : (i k : ℕ) → i + 1 + k ≡ 8 → (f : ℕ → Bool) → every 11 (λ s. Bool·beq (bitOf (openAt s) k) (f s)) ≡ true
       → not (eqb (bitAnd bits (2 ^ (24 + k))) 0) ≡ f stage
   opens i k all f is =
-      reads 24 i k (openAt stage) (rw all open-in)
+      reads 24 i k (openAt stage) (rw all (bits-in .spare-is))
       ∙ alike 11 (λ s. bitOf (openAt s) k) f is stage (omega arith)
 
   pub possible : (code : ℕ) → code < 8 → Possible code w (not (eqb (bitAnd bits (needOf code)) 0))
@@ -96,8 +91,8 @@ module _ (w : ℕ) (tidy : Tidy w) (low : stageOf w ≤ 10) where
       (opens 6 1 refl (λ s. eqb s 0) refl ∙ done-if e p (eqb stage 0) _ refl)
       (opens 5 2 refl (λ s. eqb s 3 || eqb s 8) refl ∙ done-either e p (eqb stage 3) (eqb stage 8) _ _ refl refl)
       (opens 4 3 refl told refl ∙ done-if e p (told stage) _ refl)
-      (reads 8 6 1 (flagsOf w) flags-in ∙ done-if e p (bitOf (flagsOf w) 1) _ refl)
-      (reads 16 1 6 (requestsOf w) requests-in ∙ done-if e p (bitOf (requestsOf w) 6) _ refl)
-      (reads 16 0 7 (requestsOf w) requests-in ∙ done-if e p (bitOf (requestsOf w) 7) _ refl)
-      (reads 8 5 2 (flagsOf w) flags-in ∙ done-if e p (bitOf (flagsOf w) 2) _ (put-at-moves stage r refl))
+      (reads 8 6 1 (flagsOf w) (bits-in .flags-is) ∙ done-if e p (bitOf (flagsOf w) 1) _ refl)
+      (reads 16 1 6 (requestsOf w) (bits-in .requests-is) ∙ done-if e p (bitOf (requestsOf w) 6) _ refl)
+      (reads 16 0 7 (requestsOf w) (bits-in .requests-is) ∙ done-if e p (bitOf (requestsOf w) 7) _ refl)
+      (reads 8 5 2 (flagsOf w) (bits-in .flags-is) ∙ done-if e p (bitOf (flagsOf w) 2) _ (put-at-moves stage r refl))
       code known

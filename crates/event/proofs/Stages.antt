@@ -1,6 +1,6 @@
 -- The put's decision by stage: each arm of it is that arm of the rule, and the stages that no arm names do no more. The
 -- answers of the parts are variables here. Assumes nothing.
-use Prim.Native.Nat.{ℕ, zero, suc, _+_, _*_, _/_, _%_, _<_}
+use Prim.Native.Nat.{ℕ, zero, suc, _+_, _*_, _/_, _%_, _≤_, _<_}
 use mathlib.Core.Path.{_≡_, refl, sym, ap, _∙_}
 use mathlib.Core.Bool.{Bool, true, false, Bool·beq}
 use mathlib.Core.Logic.{_⊎_, inl, inr}
@@ -12,11 +12,11 @@ use Rattle.machine.specs.declared.Outcome.the-variants.{Sent, Got}
 use Rattle.machine.specs.Fields.{Status, full, empty}
 use Rattle.machine.specs.Events as rule
 use Rattle.record.specs.declared.process.Record.{Record}
-use Rattle.record.specs.Words.{flagsOf, haveOf, fullOf, shownProcess, shownEnvelope}
+use Rattle.record.specs.Words.{stageOf, flagsOf, haveOf, fullOf, shownProcess, shownEnvelope}
 use Rattle.record.proofs.Headers.{full-is}
 use Rattle.event.specs.declared.Reaction.{Reaction}
 use Rattle.event.specs.Reaction.{Ruled, shown, leavesIn, Fits, Makes, pairFor, asking}
-use Rattle.event.proofs.Made.{then, likewise, stays, restaged}
+use Rattle.event.proofs.Made.{turned, then, likewise, stays, restaged}
 
 -- ---- the parts that go by what they find
 
@@ -45,7 +45,11 @@ module _ (r : Reaction) {have : Bool} (read : have ≡ haveOf (r .own .word)) wh
   unfolding rule.stroll asking
   stroll-without is made = likewise made (rw (here is))
 
-  module _ (s : Status) (next : ℕ) where
+  module _ (s : Status) where
+    -- the stage that comes after it
+    abbrev next : ℕ
+    next = stageOf (r .own .word) + 1
+
     pub wait-without : {t : Reaction} {wish : ℕ} → have ≡ false → wish ≡ pairFor s
         → Makes (λ x. rule.pass (asking wish x)) r t
         → Makes (rule.wait s next) r t
@@ -59,18 +63,13 @@ module _ (r : Reaction) {have : Bool} (read : have ≡ haveOf (r .own .word)) wh
       same-status : {b : Bool} → Bool·beq status s ≡ b → Bool·beq (shownEnvelope (r .header) .full) s ≡ b
       same-status is = ap (λ x. Bool·beq x s) (sym (status-read ∙ full-is (r .header) (fits .header))) ∙ is
 
-      pub wait-same : have ≡ true → Bool·beq status s ≡ true → next < 256 → {own : Record}
-          → own .word ≡ r .own .word / 256 * 256 + next
-          → Makes (rule.wait s next) r (record {
-            own = own;
-            header = r .header;
-            reach = r .reach;
-            started = r .started;
-            outcome = r .outcome;
-          })
+      pub wait-same : have ≡ true → Bool·beq status s ≡ true → stageOf (r .own .word) < 255 → {found : ℕ}
+          → found ≡ stageOf (r .own .word)
+          → {own : Record} → own .word ≡ r .own .word / 256 * 256 + (found + 1)
+          → Makes (rule.wait s next) r (turned r own (r .header) (r .reach) (r .outcome))
       unfolding rule.wait
-      wait-same is same byte word =
-          likewise (restaged r fits next byte (r .outcome) word) (rw (here is, same-status same))
+      wait-same is same few found word =
+          likewise (restaged r fits next (omega arith) (r .outcome) (rw found at word)) (rw (here is, same-status same))
 
       pub wait-other : {t u : Reaction} → have ≡ true → Bool·beq status s ≡ false → Makes rule.mark r t
           → Makes rule.forward t u
@@ -82,23 +81,18 @@ module _ (r : Reaction) {have : Bool} (read : have ≡ haveOf (r .own .word)) wh
 
 module _ (r : Reaction) (fits : Fits r) where
   pub ends-made : (outcome : Outcome) {own : Record} → own .word ≡ r .own .word / 256 * 256 + 0
-      → Makes (rule.ends outcome) r (record {
-        own = own;
-        header = r .header;
-        reach = r .reach;
-        started = r .started;
-        outcome = outcome;
-      })
+      → Makes (rule.ends outcome) r (turned r own (r .header) (r .reach) outcome)
   unfolding rule.ends
   ends-made outcome word = likewise (restaged r fits 0 (omega arith) outcome word) refl
 
-  pub end-stayed : leavesIn (r .reach) ≡ false → Makes rule.endPut r r
-  unfolding rule.endPut
-  end-stayed is = stays fits (rw is)
+  module _ {left : Bool} (read : left ≡ leavesIn (r .reach)) where
+    pub end-stayed : left ≡ false → Makes rule.endPut r r
+    unfolding rule.endPut
+    end-stayed is = stays fits (rw (sym read ∙ is))
 
-  pub end-left : {t : Reaction} → leavesIn (r .reach) ≡ true → Makes (rule.ends Sent) r t → Makes rule.endPut r t
-  unfolding rule.endPut
-  end-left is made = likewise made (rw is)
+    pub end-left : {t : Reaction} → left ≡ true → Makes (rule.ends Sent) r t → Makes rule.endPut r t
+    unfolding rule.endPut
+    end-left is made = likewise made (rw (sym read ∙ is))
 
 -- ---- by the stage
 
@@ -137,18 +131,19 @@ module _ (r : Reaction) {found stage : ℕ} (read : found ≡ stage) where
   at-wait (inr seven) made = likewise made (rw (sym read ∙ seven, seven))
 
   -- a stage that is none of those that do something
-  pub at-else : Fits r → (found ≡ 0 → ⊥) → (found ≡ 1 → ⊥) → (found ≡ 2 → ⊥) → (found ≡ 5 → ⊥) → (found ≡ 6 → ⊥)
-      → (found ≡ 7 → ⊥) → (found ≡ 10 → ⊥) → Makes (rule.putAt stage) r r
+  pub at-else : Fits r → 2 ≤ found → ((found ≡ 2) ⊎ (found ≡ 7) → ⊥) → (found ≡ 5 → ⊥) → (found ≡ 6 → ⊥)
+      → (found ≡ 10 → ⊥)
+      → Makes (rule.putAt stage) r r
   unfolding rule.putAt
-  at-else fits not0 not1 not2 not5 not6 not7 not10 =
+  at-else fits some no-wait not5 not6 not10 =
       stays fits
       (rw (
         sym read,
-        ne-eqb found 0 not0,
-        ne-eqb found 1 not1,
-        ne-eqb found 2 not2,
+        ne-eqb found 0 (λ is. omega arith),
+        ne-eqb found 1 (λ is. omega arith),
+        ne-eqb found 2 (λ is. no-wait (inl is)),
         ne-eqb found 5 not5,
         ne-eqb found 6 not6,
-        ne-eqb found 7 not7,
+        ne-eqb found 7 (λ is. no-wait (inr is)),
         ne-eqb found 10 not10,
       ))

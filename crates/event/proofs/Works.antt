@@ -20,9 +20,8 @@ use Rattle.record.specs.declared.process.Record.{Record}
 use Rattle.record.specs.declared.header.Header.{Header}
 use Rattle.record.specs.Words.{stageOf, flagsOf, requestsOf, spareOf, noteOf, shownProcess, shownEnvelope, Tidy}
 use Rattle.record.specs.Words.{TidyHeader}
-use Rattle.record.proofs.Fields.{Fields, shows, is-tidy, all-ones, set-in, off-in}
+use Rattle.record.proofs.Fields.{Fields, shows, is-tidy, fields-of, all-ones, set-in, off-in, without-note}
 use Rattle.record.proofs.Headers.{shows-envelope, is-tidy-header}
-use Rattle.record.proofs.Changes.{without-note}
 use Rattle.event.specs.declared.Reaction.{Reaction}
 use Rattle.event.specs.declared.Reach.the-variants.{Own}
 use Rattle.event.specs.Reaction.{worked, Reacts}
@@ -37,38 +36,19 @@ module _ (header : Header) (w : ℕ) (tidy : Tidy w) (fine : TidyHeader header) 
       (spareOf hw) (noteOf hw)
   unfolding every
   held true =
-      let f = set-in hw 1 0 (omega arith) (omega arith) in
-      record {
-        stage-is = f .stage-is;
-        flags-is = f .flags-is ∙ agree 2 (λ k. bitOr k 1) (λ k. 1) refl (flagsOf hw) (omega (arith, fine .status));
-        requests-is = f .requests-is ∙ or-zero-r (requestsOf hw);
-        spare-is = f .spare-is;
-        note-is = f .note-is;
-      }
+      let status = agree 2 (λ k. bitOr k 1) (λ k. 1) refl (flagsOf hw) (omega (arith, fine .status)) in
+      rw (status, or-zero-r (requestsOf hw)) at (set-in hw 1 0 (omega arith) (omega arith))
   held false =
-      let f = off-in hw 1 0 0 (omega arith) (omega arith) (omega arith) in
-      record {
-        stage-is = f .stage-is;
-        flags-is = f .flags-is ∙ agree 2 (λ k. bitAnd k 254) (λ k. 0) refl (flagsOf hw) (omega (arith, fine .status));
-        requests-is = f .requests-is ∙ all-ones 8 (requestsOf hw) (omega arith);
-        spare-is = f .spare-is;
-        note-is = f .note-is ∙ all-ones 32 (noteOf hw) (omega (arith, fine .counts));
-      }
+      let status = agree 2 (λ k. bitAnd k 254) (λ k. 0) refl (flagsOf hw) (omega (arith, fine .status)) in
+      let markers = all-ones 8 (requestsOf hw) (omega arith) in
+      rw (status, markers, all-ones 32 (noteOf hw) (omega (arith, fine .counts))) at
+      (off-in hw 1 0 0 (omega arith) (omega arith) (omega arith))
 
   -- the note dropped where it went into the envelope
   left : (s : Status)
       → Fields (cond s (w % 4294967296) w) (stageOf w) (flagsOf w) (requestsOf w) 0 (cond s 0 (noteOf w))
-  left true =
-      let f = without-note w in
-      record {
-        stage-is = f .stage-is;
-        flags-is = f .flags-is;
-        requests-is = f .requests-is;
-        spare-is = f .spare-is ∙ tidy .spare;
-        note-is = f .note-is;
-      }
-  left false =
-      record { stage-is = refl; flags-is = refl; requests-is = refl; spare-is = tidy .spare; note-is = refl }
+  left true = rw (tidy .spare) at (without-note w)
+  left false = rw (tidy .spare) at (fields-of w)
 
   abbrev outcome : Status → Outcome
   outcome s = cond s (Fill (noteOf w)) (Take (header .message))

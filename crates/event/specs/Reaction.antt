@@ -1,5 +1,5 @@
--- What an event does, in words, as the rule's reaction; and what each part of it must know and does by the rule. Assumes
--- nothing.
+-- What an event does, in words, as the rule's reaction; and what each part of it must know and does by the rule.
+-- Assumes nothing.
 use Prim.Native.Nat.{ℕ, _%_, _^_, _≤_, _<_}
 use mathlib.Core.Path.{_≡_}
 use mathlib.Core.Bool.{Bool, true, false, cond}
@@ -19,7 +19,6 @@ use Rattle.event.specs.declared.Event.{Event}
 use Rattle.event.specs.declared.Reach.{Reach}
 use Rattle.event.specs.declared.Reach.the-variants.{Own, Left, Right}
 use Rattle.event.specs.declared.Reaction.{Reaction}
-use Rattle.event.specs.Rows.{rowOf}
 
 -- ---- as the rule has it
 
@@ -39,6 +38,7 @@ leavesIn Own = false
 leavesIn (Left asks) = false
 leavesIn Right = true
 
+-- the one that a reaction in words stands for
 abbrev pub shown : Reaction → Ruled
 shown r =
     record {
@@ -62,8 +62,8 @@ pub record Begun (r : Reaction) : Type 0 where
   pub fits : Fits r
   pub here : r .reach ≡ Own
 
--- neither count is at the end of its byte, and a process that is marked is counted: a sound image's counts can go up and
--- down by one
+-- neither count is at the end of its byte, and a process that is marked is counted: a sound image's counts can go up
+-- and down by one
 pub record Ready (e : Envelope) (p : Process) : Type 0 where
   pub room : (s : Status) → count (e .marked) s < 255
   pub counted : (s : Status) → for (p .mark) s ≡ true → 1 ≤ count (e .marked) s

@@ -1,6 +1,6 @@
 -- The tables of an event: which bit of a record makes a code possible, and what a code does to its own record. Assumes
 -- nothing.
-use Prim.Native.Nat.{ℕ, _+_, _*_, _^_}
+use Prim.Native.Nat.{ℕ, _+_, _-_, _*_, _^_}
 use mathlib.Core.Path.{_≡_}
 use mathlib.Core.Bool.{Bool, not, cond, _||_}
 use lib.Dec.{eqb}
@@ -34,14 +34,16 @@ needOf code =
 abbrev row : ℕ → ℕ → ℕ → Row
 row off on started = record { off = off; on = on; started = started }
 
--- what a code turns off in its own record, what it then adds, and what it counts as started
+-- what a code turns off in its own record, what it then adds, and what it counts as started. Bits 8 to 10 are have,
+-- arriving and news; 16 and 17 asked by the right, 22 and 23 the link's requests, full the lower one; 48 and 56 a put
+-- and a get that started
 unfoldable pub rowOf : ℕ → Row
 rowOf code =
-    cond (eqb code 0) (row 18446744069414584320 1 281474976710656)
-    (cond (eqb code 1) (row 0 6 72057594037927936)
+    cond (eqb code 0) (row (2 ^ 64 - 2 ^ 32) 1 (2 ^ 48))
+    (cond (eqb code 1) (row 0 6 (2 ^ 56))
     (cond (eqb code 2) (row 0 1 0)
-    (cond (eqb code 3) (row 1024 1025 0)
-    (cond (eqb code 4) (row 1792 1280 0)
-    (cond (eqb code 5) (row 4260864 66560 0)
-    (cond (eqb code 6) (row 8520704 132096 0)
-    (row 1024 0 0)))))))
+    (cond (eqb code 3) (row (2 ^ 10) (2 ^ 10 + 1) 0)
+    (cond (eqb code 4) (row (2 ^ 10 + 2 ^ 9 + 2 ^ 8) (2 ^ 10 + 2 ^ 8) 0)
+    (cond (eqb code 5) (row (2 ^ 22 + 2 ^ 16 + 2 ^ 10) (2 ^ 16 + 2 ^ 10) 0)
+    (cond (eqb code 6) (row (2 ^ 23 + 2 ^ 17 + 2 ^ 10) (2 ^ 17 + 2 ^ 10) 0)
+    (row (2 ^ 10) 0 0)))))))

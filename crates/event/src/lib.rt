@@ -1,10 +1,12 @@
-// An event as a struct by value: read from eight bytes, tested, and applied to the header and its process's record. What
-// it does comes back by value too, the only place where an event's effect is decided. Document 01, "The eight events".
+// An event as a struct by value: read from eight bytes, tested, and applied to the header and its process's record.
+// What it does comes back by value too, the only place where an event's effect is decided.
+// Document 01, "The eight events".
 use machine::Outcome;
 use machine::Refusal;
 use record::byte::number_at;
 use record::byte::wide;
 use record::header::Header;
+use record::process;
 use record::process::Record;
 ghost use mathlib.Core.Path.{_≡_};
 ghost use Prim.Native.Nat.{_+_, _≤_, _<_};
@@ -53,8 +55,8 @@ impl Reach {
     }
 }
 
-// What an event does: to its own record and to the header, which neighbour it reaches, what it counts as started, and the
-// outcome.
+// What an event does: to its own record and to the header, which neighbour it reaches, what it counts as started, and
+// the outcome.
 pub struct Reaction {
     pub own: Record,
     pub header: Header,
@@ -63,51 +65,91 @@ pub struct Reaction {
     pub outcome: Outcome,
 }
 
-// The codes that a stage makes possible, as bits of byte 3, which is zero in a record: bit c stands for code c, 0 to 3. One
-// value an arm and a last entry of its own, so that they lie in one table.
+// Codes 0 to 3 as bits of byte 3, which is zero in a record.
+const STARTS_PUT: u64 = 0x100_0000;
+
+const STARTS_GET: u64 = 0x200_0000;
+
+const WORKS: u64 = 0x400_0000;
+
+const SIGNALS: u64 = 0x800_0000;
+
+// What a process in stage 0 may do, and what none may.
+const STARTS: u64 = STARTS_PUT + STARTS_GET;
+
+const NONE: u64 = 0x1000_0000;
+
+// The codes that a stage makes possible. One value an arm and a last entry of its own, so that they lie in one table.
 fn codes_at(stage: u64) -> u64
     requires { ⌜ stage < 16 ⌝ }
     ensures { λ r. ⌜ r ≡ codesAt stage ⌝ }
 {
     match stage {
-        0 => 0x300_0000,
-        1 => 0x800_0000,
-        3 => 0x400_0000,
-        4 => 0x800_0000,
-        6 => 0x800_0000,
-        8 => 0x400_0000,
-        9 => 0x800_0000,
-        15 => 0x1000_0000,
+        0 => STARTS,
+        1 => SIGNALS,
+        3 => WORKS,
+        4 => SIGNALS,
+        6 => SIGNALS,
+        8 => WORKS,
+        9 => SIGNALS,
+        15 => NONE,
         _ => 0,
     }
 }
 
-// The bit that makes an event possible, by code: one of those for codes 0 to 3, then arriving, the link's requests for
-// full and for empty, news. All codes are named, so that the table needs no test of its range.
+// The link's request for empty; that for full is the lower one.
+const LINK_EMPTY: u64 = 2 * process::LINK;
+
+// The bit that makes an event possible, by code. All codes are named, so that the table needs no test of its range.
 fn need_of(code: u8) -> u64
     requires { ⌜ code < 8 ⌝ }
     ensures { λ r. ⌜ r ≡ needOf code ⌝ }
 {
     match code {
-        0 => 0x100_0000,
-        1 => 0x200_0000,
-        2 => 0x400_0000,
-        3 => 0x800_0000,
-        4 => 0x200,
-        5 => 0x40_0000,
-        6 => 0x80_0000,
-        7 => 0x400,
+        0 => STARTS_PUT,
+        1 => STARTS_GET,
+        2 => WORKS,
+        3 => SIGNALS,
+        4 => process::ARRIVING,
+        5 => process::LINK,
+        6 => LINK_EMPTY,
+        7 => process::NEWS,
         _ => 0,
     }
 }
 
-// What a possible event does to its own record before anything else: bits off, and what is then added, which is the stage's
-// step and bits that are off; and what it counts as started.
+// What a possible event does to its own record before anything else: bits off, and what is then added, which is the
+// stage's step and bits that are off; and what it counts as started.
 pub struct Row {
     pub off: u64,
     pub on: u64,
     pub started: u64,
 }
+
+// What a start adds to a word of counts, one byte for each: a put, a get.
+pub const PUTS: u64 = 0x1_0000_0000_0000;
+
+pub const GETS: u64 = 0x100_0000_0000_0000;
+
+// All of the note.
+const WHOLE_NOTE: u64 = 0xFFFF_FFFF_0000_0000;
+
+// Main has signalled: the next stage, and news.
+const SIGNALLED: u64 = process::NEWS + 1;
+
+// The envelope arrives: all three flags go, and these come.
+const FLAGS: u64 = process::HAVE + process::ARRIVING + process::NEWS;
+
+const RECEIVED: u64 = process::HAVE + process::NEWS;
+
+// A request is heard: these go, the link's among them, and these come.
+const HEARS_FULL: u64 = process::LINK + process::ASKED + process::NEWS;
+
+const HEARD_FULL: u64 = process::ASKED + process::NEWS;
+
+const HEARS_EMPTY: u64 = 2 * process::LINK + 2 * process::ASKED + process::NEWS;
+
+const HEARD_EMPTY: u64 = 2 * process::ASKED + process::NEWS;
 
 // A row for each code: one match that hands back all of it, since two matches over one value become a jump.
 fn row_of(code: u8) -> Row
@@ -116,42 +158,42 @@ fn row_of(code: u8) -> Row
 {
     match code {
         0 => Row {
-            off: 0xFFFF_FFFF_0000_0000,
-            on: 0x1,
-            started: 0x1_0000_0000_0000,
+            off: WHOLE_NOTE,
+            on: 1,
+            started: PUTS,
         },
         1 => Row {
             off: 0,
-            on: 0x6,
-            started: 0x100_0000_0000_0000,
+            on: 6,
+            started: GETS,
         },
         2 => Row {
             off: 0,
-            on: 0x1,
+            on: 1,
             started: 0,
         },
         3 => Row {
-            off: 0x400,
-            on: 0x401,
+            off: process::NEWS,
+            on: SIGNALLED,
             started: 0,
         },
         4 => Row {
-            off: 0x700,
-            on: 0x500,
+            off: FLAGS,
+            on: RECEIVED,
             started: 0,
         },
         5 => Row {
-            off: 0x41_0400,
-            on: 0x1_0400,
+            off: HEARS_FULL,
+            on: HEARD_FULL,
             started: 0,
         },
         6 => Row {
-            off: 0x82_0400,
-            on: 0x2_0400,
+            off: HEARS_EMPTY,
+            on: HEARD_EMPTY,
             started: 0,
         },
         7 => Row {
-            off: 0x400,
+            off: process::NEWS,
             on: 0,
             started: 0,
         },
@@ -234,8 +276,8 @@ impl Event {
         }
     }
 
-    // Internal: whether the event is possible at a process with this record: one test of its bits, and of those that its
-    // stage stands for.
+    // Internal: whether the event is possible at a process with this record: one test of its bits, and of those that
+    // its stage stands for.
     pub fn is_possible(self, own: Record) -> bool
         requires { ⌜ (self .code < 8) × Tidy (own .word) × (stageOf (own .word) ≤ 10) ⌝ }
         ensures { λ r. ⌜ Possible (self .code) (own .word) r ⌝ }
@@ -246,8 +288,9 @@ impl Event {
     // Internal: what the event, which is possible, does at a process with this record.
     pub fn apply(self, header: Header, own: Record) -> Reaction
         requires { ⌜ Applicable self header own ⌝ }
-        ensures { λ r. ⌜ Reacts (rule.react (self .code) (self .message) (shownEnvelope header) (shownProcess (own .word)))
-            header (rowOf (self .code) .started) r ⌝ }
+        ensures { λ r. ⌜ Reacts
+            (rule.react (self .code) (self .message) (shownEnvelope header) (shownProcess (own .word))) header
+            (rowOf (self .code) .started) r ⌝ }
     {
         let code = self.code;
         let row = row_of(code % 8);

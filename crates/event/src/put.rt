@@ -1,5 +1,6 @@
-// What the put thread does with its news: ask and pass, mark, clear, forward, and the decision by stage. Each part takes
-// what the event has come to so far and hands it back with that part done. Document 01, "The eight events", code 7.
+// What the put thread does with its news: ask and pass, mark, clear, forward, and the decision by stage. Each part
+// takes what the event has come to so far and hands it back with that part done.
+// Document 01, "The eight events", code 7.
 use super::Reach;
 use super::Reaction;
 use machine::Outcome;
@@ -150,8 +151,8 @@ fn end_put(r: Reaction) -> Reaction
     }
 }
 
-// Internal: the put step, by the stage that it finds, with the envelope or without it. Stages 3, 4, 8 and 9 do no more, and
-// no sound image has one above 10.
+// Internal: the put step, by the stage that it finds, with the envelope or without it. Stages 3, 4, 8 and 9 do no more,
+// and no sound image has one above 10.
 pub fn put_at(r: Reaction) -> Reaction
     requires { ⌜ Begun r × Counted r ⌝ }
     ensures { λ t. ⌜ Makes (rule.putAt (stageOf (r .own .word))) r t ⌝ }

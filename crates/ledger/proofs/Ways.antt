@@ -1,8 +1,8 @@
 -- Each way through this crate's functions is the rule's: an outcome below 2 enters nothing, and three stores of four
 -- bytes one after the other are one record. Assumes nothing.
 use Prim.Native.Nat.{ℕ, _+_, _≤_, _<_}
-use mathlib.Core.Path.{_≡_, refl, sym, ap, _∙_}
-use mathlib.Core.Bool.{Bool, true, false, cond}
+use mathlib.Core.Path.{_≡_, refl, ap, _∙_}
+use mathlib.Core.Bool.{cond}
 use mathlib.Core.List.{List, [], _∷_, _++_, append-assoc}
 use native.Mathlib.Omega.{arith}
 use lib.ListN.{length, length-append}
@@ -12,6 +12,7 @@ use Rattle.machine.specs.declared.Outcome.{Outcome}
 use Rattle.machine.specs.Bytes.{bytes, splice}
 use Rattle.machine.specs.Run.{outcomeNumber, outcomeMessage, ledgerRecord, ledgerEntry}
 use Rattle.machine.proofs.Bytes.{length-bytes, splice-next}
+use Rattle.machine.proofs.Ways.{choice}
 use Rattle.machine.proofs.Tallies.{length-record}
 use Rattle.span.proofs.Laws.{splice-none}
 use Rattle.ledger.specs.Record.{recordOf, enteredIn}
@@ -26,19 +27,9 @@ stored number process code message s at room first second third =
     let within : at ≤ length s = omega arith in
     let a = bytes 4 number in
     let b : List ℕ = process ∷ code ∷ 0 ∷ 0 ∷ [] in
-    let m = bytes 4 message in
     let four : at + 4 ≡ at + length a = omega (arith, length-bytes 4 number) in
     let eight : at + 8 ≡ at + length (a ++ b) = omega (arith, length-append a b) in
-    third
-    ∙ rw (
-      second,
-      first,
-      four,
-      splice-next s at a b within,
-      eight,
-      splice-next s at (a ++ b) m within,
-      append-assoc a b m,
-    )
+    third ∙ rw (second, first, four, splice-next s at a b, eight, splice-next s at (a ++ b), append-assoc)
 
 -- ---- an entry
 
@@ -50,11 +41,9 @@ module _ (number process : ℕ) (o : Outcome) {code : ℕ} (is : code ≡ outcom
   -- idle and moved have no record
   pub entered-none : (s : List ℕ) (at : ℕ) → code < 2 → s ≡ enteredIn s at (ledgerEntry number process o)
   unfolding ledgerEntry
-  entered-none s at few = rw (lt-leb 2 (outcomeNumber o) (omega arith)) (go (leb (at + 0) (length s)))
-    where
-      go : (b : Bool) → s ≡ cond b (splice s at []) s
-      go true = splice-none s at
-      go false = refl
+  entered-none s at few =
+      rw (lt-leb 2 (outcomeNumber o) (omega arith))
+      (choice (λ m. s ≡ m) (leb (at + 0) (length s)) (splice s at []) s (splice-none s at) refl)
 
   module _ (many : 2 ≤ code) where
     entry-record : ledgerEntry number process o ≡ ledgerRecord number process o
@@ -75,9 +64,4 @@ module _ (number process : ℕ) (o : Outcome) {code : ℕ} (is : code ≡ outcom
         → t ≡ enteredIn s at (ledgerEntry number process o)
     unfolding ledgerRecord
     entered s at room said wrote =
-        let record-is : recordOf number process code (outcomeMessage o) ≡ ledgerEntry number process o =
-        rw (is, entry-record) in
-        wrote
-        ∙ ap (λ (m : ℕ). splice s at (recordOf number process code m)) said
-        ∙ ap (splice s at) record-is
-        ∙ sym (has-room s at (ledgerEntry number process o) (omega (arith, entry-long)))
+        rw (wrote, said, is, ← entry-record, has-room s at (ledgerEntry number process o) (omega (arith, entry-long)))

@@ -1,9 +1,9 @@
--- Each way through an event on an image: one that isn't possible is idle and leaves the image as it is; any other is the rule's
--- reaction at its process, placed. What lower functions answered is a variable here, with the value that it is known to be.
--- Assumes nothing.
+-- Each way through an event on an image: one that isn't possible is idle and leaves the image as it is; any other is
+-- the rule's reaction at its process, placed. What lower functions answered is a variable here, with the value that it
+-- is known to be. Assumes nothing.
 use Prim.Native.Nat.{ℕ, _+_, _*_, _%_, _≤_, _<_}
-use mathlib.Core.Path.{_≡_, refl, sym, ap, subst, _∙_}
-use mathlib.Core.Bool.{Bool, true, false, not, _&&_, true≢false}
+use mathlib.Core.Path.{_≡_, refl, sym, ap, _∙_}
+use mathlib.Core.Bool.{Bool, true, false, not, _&&_, and-false, true≢false}
 use mathlib.Core.List.{List}
 use native.Mathlib.Omega.{arith}
 use lib.Dec.{eqb}
@@ -36,20 +36,13 @@ use Rattle.event.specs.Parsed.{ruled}
 use Rattle.event.specs.Rows.{Possible, rowOf}
 use Rattle.event.specs.Reaction.{shown, Ruled, Applicable, Reacts}
 use Rattle.event.proofs.Codes.{by-code}
-use Rattle.place.specs.declared.Done.{Done}
 use Rattle.place.specs.Performed.{Placeable, placed, Performable, startedAs, Performed}
 
 -- ---- what counts as started
 
 -- nothing of an idle event
 idle-starts : (code : ℕ) → 0 ≡ startedAs code Idle
-idle-starts code = go (eqb code 0) (eqb code 1)
-  where
-    go : (a b : Bool) → 0 ≡ 281474976710656 * bit (a && false) + 72057594037927936 * bit (b && false)
-    go true true = refl
-    go true false = refl
-    go false true = refl
-    go false false = refl
+idle-starts code = simp and-false
 
 some-number : (o : Outcome) → isIdle o ≡ false → eqb (outcomeNumber o) 0 ≡ false
 some-number Idle h = absurd (true≢false h)
@@ -84,8 +77,8 @@ module _ {s : List ℕ} (small : Bytes s) {event : Event} (ready : Performable s
 
   low : stageOf (own .word) ≤ 10
   low =
-      let stage = ap (λ (p : Process). p .stage) (here .is ∙ sym (read-at s i (ready .below))) in
-      rw stage (sound-facts s (image-fine s (ready .fine) .fits) .records i (ready .below) .stage)
+      let facts = sound-facts s (image-fine s (ready .fine) .fits) .records i (ready .below) in
+      rw (ap (λ (p : Process). p .stage) (here .is ∙ sym (read-at s i (ready .below)))) (facts .stage)
 
   pub may-test : (event .code < 8) × Tidy (own .word) × (stageOf (own .word) ≤ 10)
   may-test = (ready .code, here .tidy, low)
@@ -94,10 +87,9 @@ module _ {s : List ℕ} (small : Bytes s) {event : Event} (ready : Performable s
   said-by : {b : Bool} → Possible (event .code) (own .word) b
       → b ≡ not (isIdle (rule.outcome (stateIn s) (ruled event)))
   unfolding rule.outcome rule.reaction
-  said-by {b} test =
-      subst (λ (p : Process).
-      b ≡ not (isIdle (rule.react (event .code) (event .message) (stateIn s .envelope) p .outcome))) (here .is)
-      (test (event .message) (stateIn s .envelope))
+  said-by test =
+      let react = rule.react (event .code) (event .message) (stateIn s .envelope) in
+      test (event .message) (stateIn s .envelope) ∙ ap (λ p. not (isIdle (react p .outcome))) (here .is)
 
   pub idle-done : {b : Bool} → Possible (event .code) (own .word) b → not b ≡ true
       → Performed s event (record { outcome = Idle; started = 0 })
@@ -106,7 +98,10 @@ module _ {s : List ℕ} (small : Bytes s) {event : Event} (ready : Performable s
       let image = image-fine s (ready .fine) in
       let idle : isIdle (rule.outcome (stateIn s) (ruled event)) ≡ true =
       not-false _ (sym (said-by test) ∙ not-true b off) in (
-        record { said = sym (idle-is (rule.outcome (stateIn s) (ruled event)) idle); counts = idle-starts (event .code) },
+        record {
+          said = sym (idle-is (rule.outcome (stateIn s) (ruled event)) idle);
+          counts = idle-starts (event .code);
+        },
         sym (rewrite-image s (image .room) small (image .fits))
             ∙ ap (imageWith s) (sym (idle-keeps (stateIn s) (ruled event) idle)),
       )
@@ -128,9 +123,7 @@ module _ {s : List ℕ} (small : Bytes s) {event : Event} (ready : Performable s
     reaction-is : rule.react (event .code) (event .message) (shownEnvelope header) (shownProcess (own .word))
         ≡ rule.reaction (stateIn s) (ruled event)
     unfolding rule.reaction
-    reaction-is =
-        ap (λ (e : Envelope). rule.react (event .code) (event .message) e (shownProcess (own .word))) envelope-is
-        ∙ ap (rule.react (event .code) (event .message) (stateIn s .envelope)) (here .is)
+    reaction-is = rw (envelope-is, here .is)
 
     pub may-apply : Applicable event header own
     unfolding rule.outcome
@@ -152,7 +145,8 @@ module _ {s : List ℕ} (small : Bytes s) {event : Event} (ready : Performable s
         }
 
     module _ {r : Reaction}
-        (reacts : Reacts (rule.react (event .code) (event .message) (shownEnvelope header) (shownProcess (own .word))) header
+        (reacts : Reacts
+        (rule.react (event .code) (event .message) (shownEnvelope header) (shownProcess (own .word))) header
         (rowOf (event .code) .started) r) {n : ℕ} (size : n ≡ header .word % 256) where
       n-is : header .word % 256 ≡ sizeIn s
       n-is = rw (head .0) (header-size s (ready .fine) small)
@@ -178,7 +172,5 @@ module _ {s : List ℕ} (small : Bytes s) {event : Event} (ready : Performable s
               said = said;
               counts = reacts .counts ∙ row-starts (event .code) (r .outcome) (ready .code) (ap isIdle said ∙ moves);
             },
-            wrote
-                ∙ ap (λ (x : Ruled). imageWith s
-                (record { envelope = x .envelope; processes = rule.place (stateIn s .processes) i x })) same,
+            wrote ∙ rw (← same),
           )

@@ -1,23 +1,20 @@
--- A reaction written into a sound image: own record, header, then the neighbour that it reaches, one after the other, are the
--- rule's one. A neighbour is another process, so what is read of it is what stood there. Assumes nothing.
-use Prim.Native.Nat.{ℕ, _+_, _*_, _%_, _^_, _≤_, _<_}
-use mathlib.Core.Path.{_≡_, refl, sym, ap, subst, _∙_}
-use mathlib.Core.Bool.{Bool, true, false}
+-- A reaction written into a sound image: own record, header, then the neighbour that it reaches, one after the other,
+-- are the rule's one. A neighbour is another process, so what is read of it is what stood there. Assumes nothing.
+use Prim.Native.Nat.{ℕ, _+_, _*_, _%_, _≤_, _<_}
+use mathlib.Core.Path.{_≡_, sym, ap, subst, _∙_}
+use mathlib.Core.Bool.{true, false}
 use mathlib.Core.List.{List, _++_}
 use native.Mathlib.Omega.{arith}
 use lib.ListN.{length, set, length-set}
 use lib.Seq.{getD-set-other}
 use lib.Bits.{bitOr}
-use Rattle.machine.specs.declared.Pair.{Pair}
 use Rattle.machine.specs.declared.Envelope.{Envelope}
 use Rattle.machine.specs.declared.Process.{Process}
-use Rattle.machine.specs.declared.Verdict.the-variants.{Fine}
 use Rattle.machine.specs.Bytes.{Bytes, number, bytes, splice}
 use Rattle.machine.specs.Ring.{left, right, recordAt}
-use Rattle.machine.specs.Fields.{none, blank}
-use Rattle.machine.specs.Image.{State, pairOf, processIn, sizeIn, stateIn, imageWith, withProcess, withEnvelope}
+use Rattle.machine.specs.Fields.{blank}
+use Rattle.machine.specs.Image.{State, pairOf, sizeIn, stateIn, imageWith, withEnvelope}
 use Rattle.machine.specs.Events.{requested, arrived, processAt, change, place}
-use Rattle.machine.specs.Refusals.{imageVerdict}
 use Rattle.machine.proofs.Image.{replaced, enveloped, write-process, write-envelope, size-written}
 use Rattle.machine.proofs.Rewrite.{read-in-range}
 use Rattle.machine.proofs.Sound.{sound-facts}
@@ -26,8 +23,7 @@ use Rattle.machine.proofs.Ring.{left-below, right-below, left-other, right-othe
 use Rattle.machine.proofs.Stored.{length-state, store-process, read-at}
 use Rattle.machine.proofs.Around.{no-request, no-arrival}
 use Rattle.machine.proofs.Idle.{unchanged}
-use Rattle.record.specs.declared.header.Header.{Header}
-use Rattle.record.specs.Words.{shownProcess, shownEnvelope, Tidy, TidyHeader}
+use Rattle.record.specs.Words.{shownProcess, shownEnvelope, Tidy}
 use Rattle.record.proofs.Images.{Read, record-read, record-written, header-written}
 use Rattle.record.proofs.Neighbours.{requested-shown, arrived-shown}
 use Rattle.event.specs.declared.Reach.{Reach}
@@ -41,28 +37,30 @@ abbrev changedAt : State → ℕ → (Process → Process) → State
 changedAt st k f = record { envelope = st .envelope; processes = change (st .processes) k f }
 
 module _ {s : List ℕ} {n i : ℕ} {r : Reaction} (ready : Placeable s n i r) where
-  pub inside : i < sizeIn s
+  inside : i < sizeIn s
   inside = omega (arith, ready .below, ready .size)
 
   -- requests for no more than full and empty
   pub few-asks : {asks : ℕ} → r .reach ≡ Left asks → asks < 4
   few-asks is = subst (λ (x : Reach). asksIn x < 4) is (ready .fits .asks)
 
-  -- its record lies in the image
+  -- another process of the ring
+  abbrev Beside : ℕ → Type 0
+  Beside k = (k < sizeIn s) × (k ≡ i → ⊥)
+
+  least : 2 ≤ sizeIn s
+  least = image-fine s (ready .fine) .size .least
+
   module _ {k : ℕ} where
-    pub left-in : k ≡ left n i → (k < 64) × (24 + 8 * k ≤ length s)
-    left-in at =
-        let image = image-fine s (ready .fine) in
-        let below : left n i < n = left-below n i (omega (arith, ready .size, image .size .least)) in
-        omega (arith, image .size .most, image .room, ready .size)
+    pub beside-left : k ≡ left n i → Beside k
+    beside-left at =
+        rw (at, ready .size) (left-below (sizeIn s) i (omega (arith, least)), left-other (sizeIn s) i least inside)
 
-    pub right-in : k ≡ right n i → (k < 64) × (24 + 8 * k ≤ length s)
-    right-in at =
-        let image = image-fine s (ready .fine) in
-        let below : right n i < n = right-below n i (omega (arith, ready .size, image .size .least)) in
-        omega (arith, image .size .most, image .room, ready .size)
+    pub beside-right : k ≡ right n i → Beside k
+    beside-right at =
+        rw (at, ready .size) (right-below (sizeIn s) i (omega (arith, least)), right-other (sizeIn s) i least inside)
 
-module _ (s : List ℕ) (small : Bytes s) {n i : ℕ} {r : Reaction} (ready : Placeable s n i r) where
+module _ {s : List ℕ} (small : Bytes s) {n i : ℕ} {r : Reaction} (ready : Placeable s n i r) where
   -- the records of the ring
   abbrev ring : List Process
   ring = stateIn s .processes
@@ -95,34 +93,39 @@ module _ (s : List ℕ) (small : Bytes s) {n i : ℕ} {r : Reaction} (ready : Pl
   -- ---- a neighbour
 
   -- what is then read of another process
-  other-read : (k : ℕ) → k < sizeIn s → (k ≡ i → ⊥)
+  other-read : (k : ℕ) → Beside ready k
       → Read (number (imageWith s own) (recordAt k) 8) (processAt (own .processes) k)
-  other-read k below other =
+  other-read k beside =
       let same : processAt (own .processes) k ≡ processAt ring k =
-      getD-set-other ring i k (shownProcess (r .own .word)) blank other in
-      let facts = sound-facts s (image-fine s (ready .fine) .fits) .records k below in
-      let low : processAt ring k .stage ≤ 10 = rw (sym (read-at s k below)) (facts .stage) in
-      let note = read-in-range s small .notes k (omega (arith, length-state s)) in
-      record-read s own k (omega (arith, long)) (rw same (omega (arith, low))) (rw same note)
+      getD-set-other ring i k (shownProcess (r .own .word)) blank (beside .1) in
+      let facts = sound-facts s (image-fine s (ready .fine) .fits) .records k (beside .0) in
+      let low : processAt ring k .stage ≤ 10 = rw (sym (read-at s k (beside .0))) (facts .stage) in
+      let note = read-in-range s small .notes k (omega (arith, beside .0, length-state s)) in
+      record-read s own k (omega (arith, beside .0, long)) (rw same (omega (arith, low))) (rw same note)
 
-  -- and written, changed
-  other-written : (k w : ℕ) (f : Process → Process) → k < sizeIn s → Read w (f (processAt (own .processes) k))
-      → splice (imageWith s own) (recordAt k) (bytes 8 w) ≡ imageWith s (changedAt own k f)
+  -- its word changed as the rule changes its record
+  other-written : {k : ℕ} {u v : List ℕ} (word : ℕ → ℕ) (f : Process → Process) → Beside ready k → u ≡ imageWith s own
+      → ((w : ℕ) → Tidy w → Read (word w) (f (shownProcess w)))
+      → v ≡ splice u (recordAt k) (bytes 8 (word (number u (recordAt k) 8)))
+      → v ≡ imageWith s (changedAt own k f)
   unfolding change
-  other-written k w f below new =
-      record-written (imageWith s own) k w (new .tidy)
-      ∙ ap (withProcess (imageWith s own) k) (new .is)
-      ∙ write-process s own k (f (processAt (own .processes) k)) (omega (arith, long))
+  other-written {k} word f beside wrote changes third =
+      let read = other-read k beside in
+      let w = number (imageWith s own) (recordAt k) 8 in
+      let new = changes w (read .tidy) in
+      third
+      ∙ rw (wrote, record-written (imageWith s own) k (word w) (new .tidy), new .is, read .is)
+      (write-process s own k (f (processAt (own .processes) k)) (omega (arith, beside .0, long)))
 
   -- ---- the whole reaction
 
   -- what the rule places, by what goes to the neighbours
-  abbrev placedBy : Pair → Bool → State
-  placedBy asks leaves =
+  abbrev placedBy : Reach → State
+  placedBy x =
+      let asked = change (own .processes) (left (length ring) i) (requested (pairOf (asksIn x) 0)) in
       record {
         envelope = shownEnvelope (r .header);
-        processes =
-            change (change (own .processes) (left (length ring) i) (requested asks)) (right (length ring) i) (arrived leaves);
+        processes = change asked (right (length ring) i) (arrived (leavesIn x));
       }
 
   -- nothing asked, and nothing that leaves
@@ -137,62 +140,29 @@ module _ (s : List ℕ) (small : Bytes s) {n i : ℕ} {r : Reaction} (ready : Pl
     at-n : n ≡ length ring
     at-n = ready .size ∙ sym (length-state s)
 
-    least : 2 ≤ sizeIn s
-    least = image-fine s (ready .fine) .size .least
-
-    wrote-own : u ≡ imageWith s (placedBy (pairOf 0 0) false)
-    wrote-own = own-written first second ∙ rw (unasked, stays (own .processes))
-
-    wrote-left : (asks : ℕ) {k : ℕ} {v : List ℕ} → asks < 4 → k ≡ left n i
-        → v ≡ splice u (recordAt k) (bytes 8 (bitOr (number u (recordAt k) 8) (asks * 4194304)))
-        → v ≡ imageWith s (placedBy (pairOf asks 0) false)
-    wrote-left asks {k} few at third =
-        let below : left (sizeIn s) i < sizeIn s = left-below (sizeIn s) i (omega (arith, least)) in
-        let other = left-other (sizeIn s) i least (inside ready) in
-        let here : k ≡ left (sizeIn s) i = at ∙ ap (λ m. left m i) (ready .size) in
-        let read = other-read k (rw here below) (rw here other) in
-        let w = number (imageWith s own) (recordAt k) 8 in
-        let new = requested-shown w (read .tidy) asks few in
-        third
-        ∙ ap (λ (x : List ℕ). splice x (recordAt k) (bytes 8 (bitOr (number x (recordAt k) 8) (asks * 4194304))))
-        (own-written first second)
-        ∙ other-written k (bitOr w (asks * 4194304)) (requested (pairOf asks 0)) (rw here below)
-        (record { is = new .is ∙ ap (requested (pairOf asks 0)) (read .is); tidy = new .tidy })
-        ∙ rw (at, at-n, stays (change (own .processes) (left (length ring) i) (requested (pairOf asks 0))))
-
-    wrote-right : {k : ℕ} {v : List ℕ} → k ≡ right n i
-        → v ≡ splice u (recordAt k) (bytes 8 (bitOr (number u (recordAt k) 8) 512))
-        → v ≡ imageWith s (placedBy (pairOf 0 0) true)
-    wrote-right {k} at third =
-        let below : right (sizeIn s) i < sizeIn s = right-below (sizeIn s) i (omega (arith, least)) in
-        let other = right-other (sizeIn s) i least (inside ready) in
-        let here : k ≡ right (sizeIn s) i = at ∙ ap (λ m. right m i) (ready .size) in
-        let read = other-read k (rw here below) (rw here other) in
-        let w = number (imageWith s own) (recordAt k) 8 in
-        let new = arrived-shown w (read .tidy) in
-        third
-        ∙ ap (λ (x : List ℕ). splice x (recordAt k) (bytes 8 (bitOr (number x (recordAt k) 8) 512)))
-        (own-written first second)
-        ∙ other-written k (bitOr w 512) (arrived true) (rw here below)
-        (record { is = new .is ∙ ap (arrived true) (read .is); tidy = new .tidy })
-        ∙ rw (at, at-n, unasked)
-
     -- what is written, by the neighbour that is reached, is what the rule places
-    by-reach : {x : Reach} {v : List ℕ} → r .reach ≡ x → v ≡ imageWith s (placedBy (pairOf (asksIn x) 0) (leavesIn x))
-        → v ≡ imageWith s (placed s i r)
+    by-reach : {x : Reach} {v : List ℕ} → r .reach ≡ x → v ≡ imageWith s (placedBy x) → v ≡ imageWith s (placed s i r)
     unfolding place
-    by-reach is wrote =
-        wrote ∙ ap (λ (x : Reach). imageWith s (placedBy (pairOf (asksIn x) 0) (leavesIn x))) (sym is)
+    by-reach is wrote = wrote ∙ ap (λ (x : Reach). imageWith s (placedBy x)) (sym is)
 
     pub placed-own : r .reach ≡ Own → u ≡ imageWith s (placed s i r)
-    placed-own is = by-reach is wrote-own
+    placed-own is = by-reach is (own-written first second ∙ rw (unasked, stays (own .processes)))
 
     pub placed-left : {asks k : ℕ} {v : List ℕ} → r .reach ≡ Left asks → k ≡ left n i
         → v ≡ splice u (recordAt k) (bytes 8 (bitOr (number u (recordAt k) 8) (asks * 4194304)))
         → v ≡ imageWith s (placed s i r)
-    placed-left {asks} is at third = by-reach is (wrote-left asks (few-asks ready is) at third)
+    placed-left {asks} is at third =
+        let ask = requested (pairOf asks 0) in
+        by-reach is
+        (other-written (λ w. bitOr w (asks * 4194304)) ask (beside-left ready at) (own-written first second)
+        (λ w tidy. requested-shown w tidy asks (few-asks ready is)) third
+        ∙ rw (at, at-n, stays (change (own .processes) (left (length ring) i) ask)))
 
     pub placed-right : {k : ℕ} {v : List ℕ} → r .reach ≡ Right → k ≡ right n i
         → v ≡ splice u (recordAt k) (bytes 8 (bitOr (number u (recordAt k) 8) 512))
         → v ≡ imageWith s (placed s i r)
-    placed-right is at third = by-reach is (wrote-right at third)
+    placed-right is at third =
+        by-reach is
+        (other-written (λ w. bitOr w 512) (arrived true) (beside-right ready at) (own-written first second)
+        arrived-shown third
+        ∙ rw (at, at-n, unasked))

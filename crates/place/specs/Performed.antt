@@ -1,5 +1,6 @@
--- What must be known before a reaction is written and before an event is performed, and what is then so. Assumes nothing.
-use Prim.Native.Nat.{ℕ, _+_, _*_, _%_, _^_, _≤_, _<_}
+-- What must be known before a reaction is written and before an event is performed, and what is then so. Assumes
+-- nothing.
+use Prim.Native.Nat.{ℕ, _+_, _*_, _%_, _^_, _<_}
 use mathlib.Core.Path.{_≡_}
 use mathlib.Core.Bool.{not, _&&_}
 use mathlib.Core.List.{List}

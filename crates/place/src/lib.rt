@@ -1,5 +1,5 @@
-// An event performed on an image: its reaction, written into its own record, the header and the record of the neighbour that
-// it reaches. Document 01, "The eight events".
+// An event performed on an image: its reaction, written into its own record, the header and the record of the neighbour
+// that it reaches. Document 01, "The eight events".
 use event::Event;
 use event::Reach;
 use event::Reaction;
@@ -38,13 +38,14 @@ fn request(image: &mut [u8], k: usize, asks: u64)
 fn arrive(image: &mut [u8], k: usize)
     requires { ⌜ (k < 64) × (24 + 8 * k ≤ length (now image)) ⌝ }
     ensures { λ _. ⌜ now (image .exit)
-        ≡ splice (now (image .entry)) (recordAt k) (bytesOf 8 (bitOr (number (now (image .entry)) (recordAt k) 8) 512)) ⌝ }
+        ≡ splice (now (image .entry)) (recordAt k)
+        (bytesOf 8 (bitOr (number (now (image .entry)) (recordAt k) 8) 512)) ⌝ }
 {
     Record::at(image, k).arrived().put(image, k);
 }
 
-// What an event does at process i, written: its own record and the header, then the neighbour's record as these left it. The
-// ring is the one read before the writes: read from the header that is written, runs were 5 % slower.
+// What an event does at process i, written: its own record and the header, then the neighbour's record as these left
+// it. The ring is the one read before the writes: read from the header that is written, runs were 5 % slower.
 fn place(image: &mut [u8], ring: Ring, i: usize, r: Reaction)
     requires { ⌜ Placeable (now image) (ring .size) i r ⌝ }
     ensures { λ _. ⌜ now (image .exit) ≡ imageWith (now (image .entry)) (placed (now (image .entry)) i r) ⌝ }
@@ -63,8 +64,8 @@ fn place(image: &mut [u8], ring: Ring, i: usize, r: Reaction)
     }
 }
 
-// Internal: an event, performed on an image that is known to be sound. One that isn't possible changes no byte. It has one
-// caller, `turns::turns`, and so have the functions beneath it: only such a function is sure to be inlined there.
+// Internal: an event, performed on an image that is known to be sound. One that isn't possible changes no byte. It has
+// one caller, `turns::turns`, and so have the functions beneath it: only such a function is sure to be inlined there.
 pub fn perform(image: &mut [u8], event: Event) -> Done
     requires { ⌜ Performable (now image) event ⌝ }
     ensures answer { λ r. ⌜ Performed (now (image .entry)) event r ⌝ }

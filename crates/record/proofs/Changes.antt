@@ -39,10 +39,9 @@ in-field w j i k =
 more : {w s f r p n : ℕ} → Fields w s f r p n → (a b c m : ℕ) → s + a < 256 → f + b < 256 → r + c < 256
     → Fields (w + (a + b * 256 + c * 65536) + m * 4294967296) (s + a) (f + b) (r + c) p (n + m)
 more {w} {s} {f} {r} {p} {n} is a b c m one two three =
-    let byte : p < 256 = omega (arith, is .spare-is) in
     let made : w + (a + b * 256 + c * 65536) + m * 4294967296 ≡ wordOf (s + a) (f + b) (r + c) p (n + m) =
-    omega (arith, joined w, is .stage-is, is .flags-is, is .requests-is, is .spare-is, is .note-is) in
-    rw made (made-of (s + a) (f + b) (r + c) p (n + m) one two three byte)
+    omega (arith, joined w) in
+    rw made (made-of (s + a) (f + b) (r + c) p (n + m) one two three (omega arith))
 
 -- what is added to flags and requests was turned off
 pub stepped : (w x y z a b c m : ℕ) → stageOf w + a < 256 → x < 256 → y < 256 → z < 2 ^ 32 → b ≤ x → c ≤ y
@@ -54,12 +53,3 @@ pub stepped : (w x y z a b c m : ℕ) → stageOf w + a < 256 → x < 256 → y 
 stepped w x y z a b c m stays one two three few less =
     more (off-in w x y z one two three) a b c m stays (omega (arith, and-le-r (flagsOf w) (255 - x)))
     (omega (arith, and-le-r (requestsOf w) (255 - y)))
-
--- ---- the note dropped
-
-pub without-note : (w : ℕ) → Fields (w % 4294967296) (stageOf w) (flagsOf w) (requestsOf w) (spareOf w) 0
-without-note w =
-    let low : w % 4294967296 ≡ wordOf (stageOf w) (flagsOf w) (requestsOf w) (spareOf w) 0 = omega (arith, joined w) in
-    rw low
-    (made-of (stageOf w) (flagsOf w) (requestsOf w) (spareOf w) 0 (omega arith) (omega arith) (omega arith)
-    (omega arith))

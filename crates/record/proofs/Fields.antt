@@ -74,36 +74,34 @@ module _ (w : ℕ) where
 
 -- ---- bits set, and bits kept
 
-module _ (w : ℕ) {m a b c d e : ℕ} (f : Fields m a b c d e) where
-  or-field : (k j x : ℕ) → m / 2 ^ k % 2 ^ j ≡ x → bitOr w m / 2 ^ k % 2 ^ j ≡ bitOr (w / 2 ^ k % 2 ^ j) x
-  or-field k j x is =
-      ap (λ n. n % 2 ^ j) (or-shr w m k) ∙ or-mod (w / 2 ^ k) (m / 2 ^ k) j ∙ ap (bitOr (w / 2 ^ k % 2 ^ j)) is
+-- what acts on each bit by itself acts on each field by itself
+module _ (op : ℕ → ℕ → ℕ) (op-shr : (a b k : ℕ) → op a b / 2 ^ k ≡ op (a / 2 ^ k) (b / 2 ^ k))
+    (op-mod : (a b k : ℕ) → op a b % 2 ^ k ≡ op (a % 2 ^ k) (b % 2 ^ k)) (w : ℕ) {m a b c d e : ℕ}
+    (f : Fields m a b c d e) where
+  each-field : (k x : ℕ) → m / 2 ^ k % 256 ≡ x → op w m / 2 ^ k % 256 ≡ op (w / 2 ^ k % 256) x
+  each-field k x is =
+      ap (λ n. n % 256) (op-shr w m k) ∙ op-mod (w / 2 ^ k) (m / 2 ^ k) 8 ∙ ap (op (w / 2 ^ k % 256)) is
 
-  pub with-bits : Fields (bitOr w m) (bitOr (stageOf w) a) (bitOr (flagsOf w) b) (bitOr (requestsOf w) c)
-      (bitOr (spareOf w) d) (bitOr (noteOf w) e)
-  with-bits =
+  by-field : Fields (op w m) (op (stageOf w) a) (op (flagsOf w) b) (op (requestsOf w) c) (op (spareOf w) d)
+      (op (noteOf w) e)
+  by-field =
       record {
-        stage-is = or-mod w m 8 ∙ ap (bitOr (stageOf w)) (f .stage-is);
-        flags-is = or-field 8 8 b (f .flags-is);
-        requests-is = or-field 16 8 c (f .requests-is);
-        spare-is = or-field 24 8 d (f .spare-is);
-        note-is = or-shr w m 32 ∙ ap (bitOr (noteOf w)) (f .note-is);
+        stage-is = op-mod w m 8 ∙ ap (op (stageOf w)) (f .stage-is);
+        flags-is = each-field 8 b (f .flags-is);
+        requests-is = each-field 16 c (f .requests-is);
+        spare-is = each-field 24 d (f .spare-is);
+        note-is = op-shr w m 32 ∙ ap (op (noteOf w)) (f .note-is);
       }
 
-  and-field : (k j x : ℕ) → m / 2 ^ k % 2 ^ j ≡ x → bitAnd w m / 2 ^ k % 2 ^ j ≡ bitAnd (w / 2 ^ k % 2 ^ j) x
-  and-field k j x is =
-      ap (λ n. n % 2 ^ j) (and-shr w m k) ∙ and-mod (w / 2 ^ k) (m / 2 ^ k) j ∙ ap (bitAnd (w / 2 ^ k % 2 ^ j)) is
+pub with-bits : (w : ℕ) {m a b c d e : ℕ} → Fields m a b c d e
+    → Fields (bitOr w m) (bitOr (stageOf w) a) (bitOr (flagsOf w) b) (bitOr (requestsOf w) c) (bitOr (spareOf w) d)
+    (bitOr (noteOf w) e)
+with-bits = by-field bitOr or-shr or-mod
 
-  under-mask : Fields (bitAnd w m) (bitAnd (stageOf w) a) (bitAnd (flagsOf w) b) (bitAnd (requestsOf w) c)
-      (bitAnd (spareOf w) d) (bitAnd (noteOf w) e)
-  under-mask =
-      record {
-        stage-is = and-mod w m 8 ∙ ap (bitAnd (stageOf w)) (f .stage-is);
-        flags-is = and-field 8 8 b (f .flags-is);
-        requests-is = and-field 16 8 c (f .requests-is);
-        spare-is = and-field 24 8 d (f .spare-is);
-        note-is = and-shr w m 32 ∙ ap (bitAnd (noteOf w)) (f .note-is);
-      }
+pub under-mask : (w : ℕ) {m a b c d e : ℕ} → Fields m a b c d e
+    → Fields (bitAnd w m) (bitAnd (stageOf w) a) (bitAnd (flagsOf w) b) (bitAnd (requestsOf w) c)
+    (bitAnd (spareOf w) d) (bitAnd (noteOf w) e)
+under-mask = by-field bitAnd and-shr and-mod
 
 -- a byte under all ones
 pub all-ones : (k x : ℕ) → x < 2 ^ k → bitAnd x (2 ^ k - 1) ≡ x
@@ -115,15 +113,9 @@ pub set-in : (w x y : ℕ) → x < 256 → y < 256
     (noteOf w)
 set-in w x y one two =
     let is : x * 256 + y * 65536 ≡ wordOf 0 x y 0 0 = omega arith in
-    let f = with-bits w (made-of 0 x y 0 0 (omega arith) one two (omega arith)) in
     rw is
-    (record {
-      stage-is = f .stage-is ∙ or-zero-r (stageOf w);
-      flags-is = f .flags-is;
-      requests-is = f .requests-is;
-      spare-is = f .spare-is ∙ or-zero-r (spareOf w);
-      note-is = f .note-is ∙ or-zero-r (noteOf w);
-    })
+    (rw (or-zero-r (stageOf w), or-zero-r (spareOf w), or-zero-r (noteOf w)) at
+    (with-bits w (made-of 0 x y 0 0 (omega arith) one two (omega arith))))
 
 -- flags, requests, marks and bits of the note off
 pub off-in : (w x y z : ℕ) → x < 256 → y < 256 → z < 2 ^ 32
@@ -132,16 +124,10 @@ pub off-in : (w x y z : ℕ) → x < 256 → y < 256 → z < 2 ^ 32
 off-in w x y z one two three =
     let is : 18446744073709551615 - (x * 256 + y * 65536 + z * 4294967296)
     ≡ wordOf 255 (255 - x) (255 - y) 255 (4294967295 - z) = omega arith in
-    let f = under-mask w
-    (made-of 255 (255 - x) (255 - y) 255 (4294967295 - z) (omega arith) (omega arith) (omega arith) (omega arith)) in
     rw is
-    (record {
-      stage-is = f .stage-is ∙ all-ones 8 (stageOf w) (omega arith);
-      flags-is = f .flags-is;
-      requests-is = f .requests-is;
-      spare-is = f .spare-is ∙ all-ones 8 (spareOf w) (omega arith);
-      note-is = f .note-is;
-    })
+    (rw (all-ones 8 (stageOf w) (omega arith), all-ones 8 (spareOf w) (omega arith)) at
+    (under-mask w
+    (made-of 255 (255 - x) (255 - y) 255 (4294967295 - z) (omega arith) (omega arith) (omega arith) (omega arith))))
 
 -- ---- byte 2 alone, a record's requests and marks and a header's markers
 
@@ -152,58 +138,28 @@ fields-of w = record { stage-is = refl; flags-is = refl; requests-is = refl; spa
 pub set-in-2 : (w y : ℕ) → y < 256
     → Fields (bitOr w (y * 65536)) (stageOf w) (flagsOf w) (bitOr (requestsOf w) y) (spareOf w) (noteOf w)
 set-in-2 w y byte =
-    let f = set-in w 0 y (omega arith) byte in
     let is : y * 65536 ≡ 0 * 256 + y * 65536 = omega arith in
-    rw is
-    (record {
-      stage-is = f .stage-is;
-      flags-is = f .flags-is ∙ or-zero-r (flagsOf w);
-      requests-is = f .requests-is;
-      spare-is = f .spare-is;
-      note-is = f .note-is;
-    })
+    rw is (rw (or-zero-r (flagsOf w)) at (set-in w 0 y (omega arith) byte))
 
-pub off-in-2 : (w y : ℕ) → y < 256 → noteOf w < 2 ^ 32
-    → Fields (bitAnd w (18446744073709551615 - y * 65536)) (stageOf w) (flagsOf w) (bitAnd (requestsOf w) (255 - y))
-    (spareOf w) (noteOf w)
-off-in-2 w y byte small =
-    let f = off-in w 0 y 0 (omega arith) byte (omega arith) in
-    let is : y * 65536 ≡ 0 * 256 + y * 65536 + 0 * 4294967296 = omega arith in
-    rw is
-    (record {
-      stage-is = f .stage-is;
-      flags-is = f .flags-is ∙ all-ones 8 (flagsOf w) (omega arith);
-      requests-is = f .requests-is;
-      spare-is = f .spare-is;
-      note-is = f .note-is ∙ all-ones 32 (noteOf w) small;
-    })
-
--- where its fields are known already
-pub off-from : {w a b c d e : ℕ} → Fields w a b c d e → (y : ℕ) → y < 256 → e < 2 ^ 32
+pub off-in-2 : {w a b c d e : ℕ} → Fields w a b c d e → (y : ℕ) → y < 256 → e < 2 ^ 32
     → Fields (bitAnd w (18446744073709551615 - y * 65536)) a b (bitAnd c (255 - y)) d e
-off-from {w} f y byte small =
-    let g = off-in-2 w y byte (rw (f .note-is) small) in
-    record {
-      stage-is = g .stage-is ∙ f .stage-is;
-      flags-is = g .flags-is ∙ f .flags-is;
-      requests-is = g .requests-is ∙ ap (λ x. bitAnd x (255 - y)) (f .requests-is);
-      spare-is = g .spare-is ∙ f .spare-is;
-      note-is = g .note-is ∙ f .note-is;
-    }
+off-in-2 {w} {b = b} {e = e} f y byte small =
+    let is : y * 65536 ≡ 0 * 256 + y * 65536 + 0 * 4294967296 = omega arith in
+    let bits = all-ones 8 b (omega (arith, f .flags-is)) in
+    rw is
+    (rw (f .stage-is, f .flags-is, f .requests-is, f .spare-is, f .note-is, bits, all-ones 32 e small) at
+    (off-in w 0 y 0 (omega arith) byte (omega arith)))
 
--- ---- another stage
+-- ---- another stage, and no note
 
 pub at-stage : (w stage : ℕ) → stage < 256
     → Fields (w / 256 * 256 + stage) stage (flagsOf w) (requestsOf w) (spareOf w) (noteOf w)
 at-stage w stage byte =
-    let new = w / 256 * 256 + stage in
-    let up : new / 256 ≡ w / 256 = omega arith in
-    let higher : (k : ℕ) → new / 2 ^ (8 + k) ≡ w / 2 ^ (8 + k) =
-    λ k. sym (shr-shr new 8 k) ∙ ap (λ x. x / 2 ^ k) up ∙ shr-shr w 8 k in
-    record {
-      stage-is = omega arith;
-      flags-is = ap (λ x. x % 256) (higher 0);
-      requests-is = ap (λ x. x % 256) (higher 8);
-      spare-is = ap (λ x. x % 256) (higher 16);
-      note-is = higher 24;
-    }
+    let is : w / 256 * 256 + stage ≡ wordOf stage (flagsOf w) (requestsOf w) (spareOf w) (noteOf w) =
+    omega (arith, joined w) in
+    rw is (made-of stage _ _ _ _ byte (omega arith) (omega arith) (omega arith))
+
+pub without-note : (w : ℕ) → Fields (w % 4294967296) (stageOf w) (flagsOf w) (requestsOf w) (spareOf w) 0
+without-note w =
+    let is : w % 4294967296 ≡ wordOf (stageOf w) (flagsOf w) (requestsOf w) (spareOf w) 0 = omega (arith, joined w) in
+    rw is (made-of (stageOf w) _ _ _ 0 (omega arith) (omega arith) (omega arith) (omega arith))

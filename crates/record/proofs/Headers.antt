@@ -5,21 +5,20 @@ use mathlib.Core.Path.{_≡_, refl, sym, ap, _∙_}
 use mathlib.Core.Bool.{Bool, true, false, not, cond, _||_}
 use mathlib.Core.Logic.{_⊎_, inl, inr}
 use native.Mathlib.Omega.{arith}
-use native.Mathlib.Nat.{mod-eq-of-lt}
-use lib.Bits.{bitAnd, and-block, and-mask, and-zero-r}
+use lib.Bits.{bitAnd, and-zero-r}
 use lib.Dec.{eqb}
 use borrow.Author.Tests.{ne-eqb}
 use Rattle.machine.specs.declared.Envelope.{Envelope}
 use Rattle.machine.specs.Bytes.{bitOf}
 use Rattle.machine.specs.Lists.{every}
-use Rattle.machine.specs.Fields.{for, count}
+use Rattle.machine.specs.Fields.{count}
 use Rattle.machine.specs.Image.{pairOf}
 use Rattle.machine.specs.Events.{positive, wanted}
 use Rattle.machine.proofs.Lists.{agree}
 use Rattle.record.specs.declared.header.Header.{Header}
-use Rattle.record.specs.Words.{stageOf, flagsOf, requestsOf, spareOf, noteOf}
-use Rattle.record.specs.Words.{fullOf, shownEnvelope, TidyHeader, countedAs}
-use Rattle.record.proofs.Fields.{Fields, wordOf, made-of, joined}
+use Rattle.record.specs.Words.{stageOf, flagsOf, requestsOf, spareOf, noteOf, fullOf, shownEnvelope, countedAs}
+use Rattle.record.specs.Words.{TidyHeader}
+use Rattle.record.proofs.Fields.{Fields, wordOf, made-of, joined, under-mask, all-ones}
 
 -- ---- its fields
 
@@ -51,123 +50,77 @@ less : (a b c d e x y : ℕ) → x ≤ d → y ≤ e
     → wordOf a b c d e - (x * 16777216 + y * 4294967296) ≡ wordOf a b c (d - x) (e - y)
 less a b c d e x y low high = omega arith
 
+-- the word by its fields
+whole : {w n s m f e : ℕ} → Fields w n s m f e → w ≡ wordOf n s m f e
+whole {w} is = joined w ∙ rw (is .stage-is, is .flags-is, is .requests-is, is .spare-is, is .note-is)
+
 -- one more in the counts of a pair, and one fewer
 module _ {w n s m f e : ℕ} (is : Fields w n s m f e) (pair : ℕ) where
-  -- the word by its fields
-  whole : w ≡ wordOf n s m f e
-  whole = joined w ∙ rw (is .stage-is, is .flags-is, is .requests-is, is .spare-is, is .note-is)
-
-  -- with other counts
-  made : (fulls empties : ℕ) → fulls < 256 → Fields (wordOf n s m fulls empties) n s m fulls empties
-  made fulls empties byte =
-      let one = is .stage-is in
-      let two = is .flags-is in
-      let three = is .requests-is in
-      made-of n s m fulls empties (omega arith) (omega arith) (omega arith) byte
-
   pub counts-up : f + pair % 2 < 256 → Fields (w + countedAs pair) n s m (f + pair % 2) (e + pair / 2)
   counts-up room =
-      let more : w + countedAs pair ≡ wordOf n s m (f + pair % 2) (e + pair / 2) = omega (arith, whole) in
-      rw more (made (f + pair % 2) (e + pair / 2) room)
+      let more : w + countedAs pair ≡ wordOf n s m (f + pair % 2) (e + pair / 2) = omega (arith, whole is) in
+      rw more (made-of n s m (f + pair % 2) _ (omega arith) (omega arith) (omega arith) room)
 
   pub counts-down : pair % 2 ≤ f → pair / 2 ≤ e → Fields (w - countedAs pair) n s m (f - pair % 2) (e - pair / 2)
   counts-down low high =
       let fewer : w - countedAs pair ≡ wordOf n s m (f - pair % 2) (e - pair / 2) =
-      ap (λ x. x - countedAs pair) whole ∙ less n s m f e (pair % 2) (pair / 2) low high in
-      rw fewer (made (f - pair % 2) (e - pair / 2) (omega arith))
+      ap (λ x. x - countedAs pair) (whole is) ∙ less n s m f e (pair % 2) (pair / 2) low high in
+      rw fewer (made-of n s m (f - pair % 2) _ (omega arith) (omega arith) (omega arith) (omega arith))
 
   -- what they take away is there
   pub counts-there : pair % 2 ≤ f → pair / 2 ≤ e → countedAs pair ≤ w
-  counts-there low high = omega (arith, whole)
+  counts-there low high = omega (arith, whole is)
 
 -- ---- is it wanted
 
--- a count in a place of its own above a bit
-some : (b : Bool) (c k place : ℕ) → k ≡ cond b place 0 → 1 ≤ place
-    → not (eqb ((c * 256 + k) * 65536) 0) ≡ b || positive c
-some true c k place is more =
-    rw (ne-eqb ((c * 256 + k) * 65536) 0 (λ none. omega (arith, is, none)))
-some false zero k place is more = rw is
-some false (suc c) k place is more =
-    rw (ne-eqb ((suc c * 256 + k) * 65536) 0 (λ none. omega (arith, none)))
-
-raised : (c : ℕ) → positive (c * 256) ≡ positive c
-raised zero = refl
-raised (suc c) =
-    let more : suc c * 256 ≡ suc (c * 256 + 255) = omega arith in
-    ap positive more
+-- a marker and a count where nothing else is left
+some : (b : Bool) (c k f e place : ℕ) → k ≡ cond b place 0 → 1 ≤ place → f + e ≡ c
+    → not (eqb (wordOf 0 0 k f e) 0) ≡ b || positive c
+some true c k f e place is more all = rw (ne-eqb (wordOf 0 0 k f e) 0 (λ none. omega (arith, is, none)))
+some false zero k f e place is more all =
+    let none : wordOf 0 0 k f e ≡ 0 = omega (arith, is) in
+    rw none
+some false (suc c) k f e place is more all = rw (ne-eqb (wordOf 0 0 k f e) 0 (λ none. omega (arith, none)))
 
 module _ (h : Header) (tidy : TidyHeader h) where
   abbrev markers : ℕ
-  markers = h .word / 65536 % 256
+  markers = requestsOf (h .word)
 
-  abbrev above : ℕ
-  above = h .word / 16777216
+  abbrev fulls : ℕ
+  fulls = spareOf (h .word)
 
-  word-is : h .word ≡ (above * 2 ^ 8 + markers) * 2 ^ 16 + h .word % 65536
-  word-is = omega arith
+  abbrev empties : ℕ
+  empties = noteOf (h .word)
 
-  -- what a mask of both counts and both markers leaves
-  masked : (high low : ℕ) → low < 256
-      → bitAnd (h .word) ((high * 2 ^ 8 + low) * 2 ^ 16) ≡ (bitAnd above high * 256 + bitAnd markers low) * 65536
-  masked high low byte =
-      let zero-low : (high * 2 ^ 8 + low) * 2 ^ 16 ≡ (high * 2 ^ 8 + low) * 2 ^ 16 + 0 = omega arith in
-      ap (bitAnd (h .word)) zero-low
-      ∙ ap (λ x. bitAnd x ((high * 2 ^ 8 + low) * 2 ^ 16 + 0)) word-is
-      ∙ and-block 16 (above * 2 ^ 8 + markers) (high * 2 ^ 8 + low) (h .word % 65536) 0 (omega arith) (omega arith)
-      ∙ rw (
-        and-zero-r (h .word % 65536),
-        and-block 8 above high markers low (omega arith) (omega arith),
-      )
-      (omega arith)
-
-  full-bit : bitAnd markers 1 ≡ cond (bitOf markers 0) 1 0
-  unfolding every
-  full-bit = agree 4 (λ k. bitAnd k 1) (λ k. cond (bitOf k 0) 1 0) refl markers (omega (arith, tidy .markers))
-
-  empty-bit : bitAnd markers 2 ≡ cond (bitOf markers 1) 2 0
-  unfolding every
-  empty-bit = agree 4 (λ k. bitAnd k 2) (λ k. cond (bitOf k 1) 2 0) refl markers (omega (arith, tidy .markers))
-
-  -- the count for full is the lower one
-  full-count : bitAnd above 255 ≡ above % 256
-  full-count = and-mask above 8
-
-  -- and the one for empty stands above it
-  empty-count : bitAnd above 65280 ≡ h .word / 4294967296 * 256
-  empty-count =
-      let up : above ≡ h .word / 4294967296 * 2 ^ 8 + above % 256 = omega arith in
-      ap (λ x. bitAnd x (255 * 2 ^ 8 + 0)) up
-      ∙ and-block 8 (h .word / 4294967296) 255 (above % 256) 0 (omega arith) (omega arith)
-      ∙ rw (and-zero-r (above % 256), and-mask (h .word / 4294967296) 8, mod-eq-of-lt (tidy .counts)) (omega arith)
+  -- what a mask of markers and counts leaves
+  masked : (m f e : ℕ) → m < 256 → f < 256
+      → bitAnd (h .word) (wordOf 0 0 m f e) ≡ wordOf 0 0 (bitAnd markers m) (bitAnd fulls f) (bitAnd empties e)
+  masked m f e one two =
+      whole
+      (rw (and-zero-r (stageOf (h .word)), and-zero-r (flagsOf (h .word))) at
+      (under-mask (h .word) (made-of 0 0 m f e (omega arith) (omega arith) one two)))
 
   pub full-is : fullOf (h .word) ≡ shownEnvelope h .full
   full-is =
       let same : h .word / 256 % 2 ≡ h .word / 256 % 256 = omega (arith, tidy .status) in
       ap (λ x. eqb x 1) same
 
-  wanted-full : fullOf (h .word) ≡ true → not (eqb (bitAnd (h .word) 4278255616) 0) ≡ wanted (shownEnvelope h)
-  unfolding wanted
-  wanted-full is =
-      let left : bitAnd (h .word) 4278255616 ≡ (above % 256 * 256 + bitAnd markers 1) * 65536 =
-      masked 255 1 (omega arith) ∙ ap (λ x. (x * 256 + bitAnd markers 1) * 65536) full-count in
-      rw (sym full-is ∙ is)
-      (ap (λ x. not (eqb x 0)) left
-      ∙ some (bitOf markers 0) (above % 256) (bitAnd markers 1) 1 full-bit (omega arith))
-
-  wanted-empty : fullOf (h .word) ≡ false → not (eqb (bitAnd (h .word) 1095216791552) 0) ≡ wanted (shownEnvelope h)
-  unfolding wanted
-  wanted-empty is =
-      let left : bitAnd (h .word) 1095216791552 ≡ (h .word / 4294967296 * 256 * 256 + bitAnd markers 2) * 65536 =
-      masked 65280 2 (omega arith) ∙ ap (λ x. (x * 256 + bitAnd markers 2) * 65536) empty-count in
-      rw (sym full-is ∙ is)
-      (ap (λ x. not (eqb x 0)) left
-      ∙ some (bitOf markers 1) (h .word / 4294967296 * 256) (bitAnd markers 2) 2 empty-bit (omega arith)
-      ∙ ap (λ x. bitOf markers 1 || x) (raised (h .word / 4294967296)))
-
   -- by the mask that the status chooses
   pub wanted-by : {b : Bool} {wants : ℕ} → b ≡ fullOf (h .word)
       → ((wants ≡ 4278255616) × (b ≡ true)) ⊎ ((wants ≡ 1095216791552) × (b ≡ false))
       → not (eqb (bitAnd (h .word) wants) 0) ≡ wanted (shownEnvelope h)
-  wanted-by read (inl w) = rw (w .0) (wanted-full (sym read ∙ w .1))
-  wanted-by read (inr w) = rw (w .0) (wanted-empty (sym read ∙ w .1))
+  unfolding wanted every
+  wanted-by read (inl w) =
+      let bit = agree 4 (λ k. bitAnd k 1) (λ k. cond (bitOf k 0) 1 0) refl markers (omega (arith, tidy .markers)) in
+      let count : bitAnd fulls 255 + bitAnd empties 0 ≡ fulls =
+      rw (all-ones 8 fulls (omega arith), and-zero-r empties) (omega arith) in
+      rw (w .0, sym full-is ∙ sym read ∙ w .1)
+      (ap (λ x. not (eqb x 0)) (masked 1 255 0 (omega arith) (omega arith))
+      ∙ some (bitOf markers 0) fulls _ _ _ 1 bit (omega arith) count)
+  wanted-by read (inr w) =
+      let bit = agree 4 (λ k. bitAnd k 2) (λ k. cond (bitOf k 1) 2 0) refl markers (omega (arith, tidy .markers)) in
+      let count : bitAnd fulls 0 + bitAnd empties 255 ≡ empties =
+      rw (and-zero-r fulls, all-ones 8 empties (tidy .counts)) (omega arith) in
+      rw (w .0, sym full-is ∙ sym read ∙ w .1)
+      (ap (λ x. not (eqb x 0)) (masked 2 0 255 (omega arith) (omega arith))
+      ∙ some (bitOf markers 1) empties _ _ _ 2 bit (omega arith) count)

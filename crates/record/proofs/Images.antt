@@ -1,6 +1,6 @@
--- Words and images: the word that stands in an image shows the process, and the header's words the envelope, that the rule
--- reads there; and a word in order, written, is the process that it shows, written. Assumes nothing.
-use Prim.Native.Nat.{ℕ, _+_, _*_, _/_, _%_, _^_, _≤_, _<_}
+-- Words and images: the word that stands in an image shows the process, and the header's words the envelope, that the
+-- rule reads there; and a word in order, written, is the process that it shows, written. Assumes nothing.
+use Prim.Native.Nat.{ℕ, _+_, _/_, _%_, _^_, _≤_, _<_}
 use mathlib.Core.Path.{_≡_, refl, sym, ap, subst, _∙_}
 use mathlib.Core.Bool.{true}
 use mathlib.Core.List.{List, [], _∷_, _++_}
@@ -8,19 +8,18 @@ use native.Mathlib.Omega.{arith}
 use lib.ListN.{length, getD, take, drop}
 use lib.Seq.{take-at}
 use lib.Dec.{eqb}
-use lib.Pow.{shr-shr}
 use borrow.Author.Tests.{eqb-true}
 use Rattle.machine.specs.declared.Envelope.{Envelope}
 use Rattle.machine.specs.declared.Process.{Process}
 use Rattle.machine.specs.declared.Verdict.the-variants.{Fine}
 use Rattle.machine.specs.Bytes.{Bytes, bit, littleEndian, number, bytes, splice}
 use Rattle.machine.specs.Ring.{recordAt}
-use Rattle.machine.specs.Image.{State, pairOf, flagBits, requestBits, pairBits, envelopeIn, processFrom, processBytes}
+use Rattle.machine.specs.Image.{State, flagBits, requestBits, envelopeIn, processBytes}
 use Rattle.machine.specs.Image.{headerBytes, imageWith, sizeIn, stateIn, withProcess, withEnvelope}
 use Rattle.machine.specs.Events.{processAt}
 use Rattle.machine.specs.Refusals.{imageVerdict}
 use Rattle.machine.proofs.Bytes.{littleEndian-bytes-4, number-more, number-4, number-8, zeros-number, number-lt}
-use Rattle.machine.proofs.Bits.{bit-le, is-bit, pair-le, flags-le, process-is, flags-are, requests-are, markers-are}
+use Rattle.machine.proofs.Bits.{is-bit, pair-le, flags-le, process-is, flags-are, requests-are, markers-are}
 use Rattle.machine.proofs.Image.{length-process}
 use Rattle.machine.proofs.Readback.{following, record-stands}
 use Rattle.machine.proofs.Rewrite.{rewrite-image, read-in-range}
@@ -28,8 +27,9 @@ use Rattle.machine.proofs.Stored.{length-state, read-at}
 use Rattle.machine.proofs.Sound.{sound-facts}
 use Rattle.machine.proofs.Refusals.{image-fine}
 use Rattle.record.specs.declared.header.Header.{Header}
-use Rattle.record.specs.Words.{stageOf, flagsOf, requestsOf, noteOf, shownProcess, Tidy, shownEnvelope, TidyHeader}
-use Rattle.record.proofs.Laws.{word-halves}
+use Rattle.record.specs.Words.{stageOf, flagsOf, requestsOf, noteOf, shownProcess, shownEnvelope, Tidy}
+use Rattle.record.specs.Words.{TidyHeader}
+use Rattle.record.proofs.Laws.{bytes-apart, word-halves}
 use Rattle.record.proofs.Fields.{Fields, wordOf, made-of, shows, is-tidy}
 
 -- ---- a record read
@@ -59,12 +59,9 @@ record-read s st i below low small =
     rw (record-stands s st i below, take-at (processBytes p) (following s st i) 8 (length-process p))
     (bytes-joined p small) in
     let few = flags-le p in
-    let fields = made-of (p .stage) (flagBits p) (requestBits p) 0 (p .note) low (omega arith) (requests-le p) (omega arith) in
-    rw joined
-    (record {
-      is = shows fields ∙ process-is p;
-      tidy = is-tidy fields few refl small;
-    })
+    let fields =
+    made-of (p .stage) (flagBits p) (requestBits p) 0 (p .note) low (omega arith) (requests-le p) (omega arith) in
+    rw joined (record { is = shows fields ∙ process-is p; tidy = is-tidy fields few refl small })
 
 -- of an accepted image
 pub sound-read : (s : List ℕ) (i : ℕ) → imageVerdict s ≡ Fine → Bytes s → i < sizeIn s
@@ -80,15 +77,6 @@ sound-read s i fine small below =
     (record-read s st i (omega (arith, length-state s)) (omega (arith, stage)) note)
 
 -- ---- a record written
-
-bytes-apart : (w : ℕ) → bytes 8 w
-    ≡ (stageOf w ∷ flagsOf w ∷ requestsOf w ∷ w / 16777216 % 256 ∷ []) ++ bytes 4 (noteOf w)
-unfolding bytes
-bytes-apart w =
-    let two : w / 256 / 256 ≡ w / 65536 = shr-shr w 8 8 in
-    let three : w / 65536 / 256 ≡ w / 16777216 = shr-shr w 16 8 in
-    let four : w / 16777216 / 256 ≡ w / 4294967296 = shr-shr w 24 8 in
-    rw (two, three, four)
 
 pub record-written : (s : List ℕ) (i w : ℕ) → Tidy w
     → splice s (recordAt i) (bytes 8 w) ≡ withProcess s i (shownProcess w)

@@ -3,7 +3,7 @@ ghost use mathlib.Core.Path.{_≡_};
 ghost use Prim.Native.Nat.{_+_, _≤_, _<_};
 ghost use lib.ListN.{length};
 ghost use mathlib.Core.List.{[], _∷_};
-ghost use Rattle.machine.specs.Bytes.{bit, number, bytes as bytesOf, splice};
+ghost use Rattle.machine.specs.Bytes.{number, bytes as bytesOf, splice};
 
 // Internal: a byte in a wider type.
 pub fn wide(x: u8) -> usize
@@ -24,13 +24,6 @@ pub fn wide64(x: u8) -> u64
     ensures { λ r. ⌜ (r ≡ x) × (r < 256) ⌝ }
 {
     x as u64
-}
-
-// Internal: a bit as a number.
-pub fn digit(b: bool) -> u8
-    ensures { λ r. ⌜ (r ≡ bit b) × (r ≤ 1) ⌝ }
-{
-    if b { 1 } else { 0 }
 }
 
 // Internal: the number of four bytes, lowest first.

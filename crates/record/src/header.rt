@@ -1,6 +1,6 @@
-// The header as two numbers of eight bytes, by value. In the first, byte 0 is N, byte 1 the status, byte 2 the markers, bytes
-// 3 and 4 the counts of the processes marked for full and for empty; the second is the message. Two bits that stand for
-// full and empty are a number, 0 to 3, with full as its lower bit. Document 01, "The image".
+// The header as two numbers of eight bytes, by value. In the first, byte 0 is N, byte 1 the status, byte 2 the markers,
+// bytes 3 and 4 the counts of the processes marked for full and for empty; the second is the message. Two bits that
+// stand for full and empty are a number, 0 to 3, with full as its lower bit. Document 01, "The image".
 use super::byte::eight_at;
 use super::byte::put_word;
 ghost use mathlib.Core.Path.{_≡_};
@@ -36,7 +36,8 @@ impl Header {
     // Internal: the header.
     pub fn of(image: &[u8]) -> Header
         requires { ⌜ 16 ≤ length (now image) ⌝ }
-        ensures { λ r. ⌜ (r .word ≡ number (now (image .entry)) 0 8) × (r .message ≡ number (now (image .entry)) 8 8) ⌝ }
+        ensures { λ r. ⌜ (r .word ≡ number (now (image .entry)) 0 8)
+            × (r .message ≡ number (now (image .entry)) 8 8) ⌝ }
     {
         Header {
             word: eight_at(image, 0),
@@ -90,8 +91,8 @@ impl Header {
         }
     }
 
-    // Internal: with one more marked for full, for empty or for both, and with one fewer. By sums, since whether there is
-    // a mark to count can't be foreseen: a branch took 3 % of a guided run.
+    // Internal: with one more marked for full, for empty or for both, and with one fewer. By sums, since whether there
+    // is a mark to count can't be foreseen: a branch took 3 % of a guided run.
     pub fn with_more(self, pair: u64) -> Header
         requires { ⌜ (pair < 4) × (self .word < 2 ^ 40 - 2 ^ 32) ⌝ }
         ensures { λ r. ⌜ (r .word ≡ self .word + countedAs pair) × (r .message ≡ self .message) ⌝ }

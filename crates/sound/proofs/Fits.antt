@@ -1,5 +1,5 @@
--- All records fit, one by one from the first on, just where the bytes of all are in range and all stages have the envelope
--- that they need. Assumes nothing.
+-- All records fit, one by one from the first on, just where the bytes of all are in range and all stages have the
+-- envelope that they need. Assumes nothing.
 use Prim.Native.Nat.{ℕ, zero, suc, _+_}
 use mathlib.Core.Path.{_≡_, refl, sym, ap, _∙_}
 use mathlib.Core.Bool.{Bool, true, false, _&&_}

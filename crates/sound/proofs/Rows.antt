@@ -1,5 +1,5 @@
--- The table of masks, arm by arm, and the entries that no arm names: a test that the checker computes at all 64. Assumes
--- nothing.
+-- The table of masks, arm by arm, and the entries that no arm names: a test that the checker computes at all 64.
+-- Assumes nothing.
 use Prim.Native.Nat.{ℕ, _<_}
 use mathlib.Core.Path.{_≡_, refl, sym}
 use mathlib.Core.Bool.{Bool, true, false, _||_}

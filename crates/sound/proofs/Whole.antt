@@ -89,7 +89,8 @@ module _ (s : List ℕ) (small : Bytes s) where
     pub one : oneFlag (w .left) (w .flags) ≡ true
     pub counts : countsIn w ≡ first / 16777216
 
-  module _ {n : ℕ} {w : Walk} (size : n ≡ sizeIn s) (most : n ≤ 64) (walked : Walked s (eqb (first / 256 % 2) 1) 0 n w) where
+  module _ {n : ℕ} {w : Walk} (size : n ≡ sizeIn s) (most : n ≤ 64)
+      (walked : Walked s (eqb (first / 256 % 2) 1) 0 n w) where
     abbrev status : Status
     status = eqb (first / 256 % 2) 1
 
@@ -117,7 +118,8 @@ module _ (s : List ℕ) (small : Bytes s) where
         rw (ones-64 (markedSet st (processesIn s n)) below) (ones-le 64 (markedSet st (processesIn s n)) below)
 
     -- both counts, from the sets
-    counts-are : countsIn w ≡ ones64 (markedSet full (processesIn s n)) + 256 * ones64 (markedSet empty (processesIn s n))
+    counts-are : countsIn w
+        ≡ ones64 (markedSet full (processesIn s n)) + 256 * ones64 (markedSet empty (processesIn s n))
     counts-are = rw (count-is full (walked .full), count-is empty (walked .empty))
 
     sound-passes : sound s ≡ true → Passes w
@@ -229,7 +231,8 @@ module _ (s : List ℕ) (small : Bytes s) where
 
 -- ---- as code goes through the tests
 
-module _ (s : List ℕ) (small : Bytes s) {n a b : ℕ} {w : Walk} (size : n ≡ sizeIn s) (most : n ≤ 64) (one : a ≡ number s 0 8)
+module _ (s : List ℕ) (small : Bytes s) {n a b : ℕ} {w : Walk} (size : n ≡ sizeIn s) (most : n ≤ 64)
+    (one : a ≡ number s 0 8)
     (two : b ≡ number s 8 8) (walked : Walked s (eqb (a / 256 % 2) 1) 0 n w) where
   -- the walk was under the status that the word has
   same-walk : Walked s (eqb (number s 0 8 / 256 % 2) 1) 0 n w

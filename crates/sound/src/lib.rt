@@ -1,5 +1,5 @@
-// Whether an image is sound: one walk over its records, and what binds them to the header. Document 01, "The image", its
-// paragraph on soundness.
+// Whether an image is sound: one walk over its records, and what binds them to the header. Document 01, "The image",
+// its paragraph on soundness.
 use image::Ring;
 use machine::Refusal;
 use record::byte::eight_at;

@@ -1,12 +1,13 @@
 -- Each way through the step call is that way through the rule. The answers of lower functions are variables here, each
 -- with the rule's value that it is known to be. Assumes nothing.
-use Prim.Native.Nat.{ℕ, _+_, _*_}
+use Prim.Native.Nat.{ℕ, _+_, _*_, _≤_}
 use mathlib.Core.Path.{_≡_, _∙_}
 use mathlib.Core.List.{List, []}
 use native.Mathlib.Omega.{arith}
 use Rattle.machine.specs.declared.Refusal.{Refusal}
 use Rattle.machine.specs.declared.Verdict.the-variants as verdict
-use Rattle.machine.specs.Image.{sizeIn, stateIn, imageWith}
+use Rattle.machine.specs.Image.{sizeIn, stateIn}
+use Rattle.machine.specs.Lists.{tabulate}
 use Rattle.machine.specs.Tape.{eventIn}
 use Rattle.machine.specs.Run.{after}
 use Rattle.machine.specs.Refusals.{codes, imageVerdict, eventVerdict}
@@ -23,7 +24,7 @@ use Rattle.event.specs.declared.Parsed.the-variants as parsed
 use Rattle.event.specs.Parsed.{parsedAs}
 use Rattle.event.proofs.Apart as event-test
 use Rattle.turns.specs.declared.Tally.{Tally}
-use Rattle.turns.specs.Turns.{eventsFrom, lastFrom, Turning, Tallied}
+use Rattle.turns.specs.Turns.{eventsFrom, lastFrom, Turning, Tallied, Ran}
 
 module _ (s event : List ℕ) {c : Checked} (test : c ≡ checkedAs (imageVerdict s) (sizeIn s)) where
   pub image-refused : {r : Refusal} → c ≡ checked.Refused r
@@ -54,8 +55,8 @@ module _ (s event : List ℕ) {c : Checked} (test : c ≡ checkedAs (imageVerdic
       accepted =
           rw size at (event-test.done-fine (eventVerdict codes (ring .size) event) (eventIn event 0) read parts)
 
-      pub may-turn : Turning s event 0 0 1 0
-      may-turn =
+      pub may-turn : {end : ℕ} → end ≤ 1 → Turning s event 0 0 end 0
+      may-turn one =
           record {
             fine = fine;
             order = omega arith;
@@ -70,9 +71,8 @@ module _ (s event : List ℕ) {c : Checked} (test : c ≡ checkedAs (imageVerdic
           }
 
       -- one event's outcome is the last one's
-      pub step-done : {t : Tally} {u : List ℕ} → Tallied (stateIn s) (eventsFrom event 0 1) t
-          → u ≡ imageWith s (after (stateIn s) (eventsFrom event 0 1))
+      pub step-done : {t : Tally} {l u m : List ℕ} → Tallied (stateIn s) (eventsFrom event 0 1) t
+          → Ran 0 0 s l (eventsFrom event 0 1) u m
           → (answer verdict.Fine (outcomeValues (t .last)) ≡ stepAnswer s event) × (u ≡ stepImage s event)
-      unfolding stepAnswer stepImage stepVerdict eventsFrom lastFrom after
-      step-done tallied wrote =
-          (rw (tallied .last, fine, accepted), wrote ∙ rw (fine, accepted))
+      unfolding stepAnswer stepImage stepVerdict tabulate lastFrom after
+      step-done tallied ran = (rw (tallied .last, fine, accepted), ran .image ∙ rw (fine, accepted))

@@ -8,13 +8,13 @@ use machine::Outcome;
 use place::perform;
 ghost use mathlib.Core.Path.{_≡_};
 ghost use Prim.Native.Nat.{_-_};
-ghost use Rattle.machine.specs.Image.{stateIn, imageWith};
-ghost use Rattle.machine.specs.Run.{after, ledgerFrom};
+ghost use Rattle.machine.specs.Image.{stateIn};
 ghost use Rattle.ledger.specs.Bounds.{NoneAbove};
-ghost use Rattle.turns.specs.Turns.{together, unpacked, eventsFrom, Turning, Tallied, RecordedFrom};
+ghost use Rattle.turns.specs.Turns.{added, eventsFrom, Turning, Tallied, Ran};
 
 // A word of counts has a byte for each, and these are what one more adds: an idle event 1, a fill, a take, a sent or a
-// got by its number, 2 to 5, then a start. Byte 1, of the events that moved something and have no record, isn't read.
+// got by its number, 2 to 5, then a start (`event::PUTS`, `GETS`). Byte 1, of the events that moved something and have
+// no record, isn't read.
 const FILLS: u64 = 0x1_0000;
 
 const TAKES: u64 = 0x100_0000;
@@ -22,10 +22,6 @@ const TAKES: u64 = 0x100_0000;
 const SENT: u64 = 0x1_0000_0000;
 
 const GOT: u64 = 0x100_0000_0000;
-
-const PUTS: u64 = 0x1_0000_0000_0000;
-
-const GETS: u64 = 0x100_0000_0000_0000;
 
 // What at most 63 events came to: a word of their counts, so that one sum counts whatever comes, and the last one's
 // outcome.
@@ -38,7 +34,7 @@ impl Tally {
     // Internal: these counts added to those of the events before; a record for each fill, take, sent and got.
     pub fn added_to(self, counts: Counts) -> Counts
         requires { ⌜ NoneAbove 4294967295 counts ⌝ }
-        ensures { λ r. ⌜ r ≡ together counts (unpacked (self .counts)) ⌝ }
+        ensures { λ r. ⌜ r ≡ added counts (self .counts) ⌝ }
     {
         let word = self.counts;
         let fills = word / FILLS % 256;
@@ -46,8 +42,8 @@ impl Tally {
         let sent = word / SENT % 256;
         let got = word / GOT % 256;
         Counts {
-            puts: counts.puts + word / PUTS % 256,
-            gets: counts.gets + word / GETS % 256,
+            puts: counts.puts + word / event::PUTS % 256,
+            gets: counts.gets + word / event::GETS % 256,
             fills: counts.fills + fills,
             takes: counts.takes + takes,
             sent: counts.sent + sent,
@@ -72,12 +68,8 @@ pub fn turns(
     requires { ⌜ Turning (now image) (now bytes) start first end from ⌝ }
     ensures answer { λ r. ⌜ Tallied (stateIn (now (image .entry)))
         (eventsFrom (now (bytes .entry)) start (end - first)) r ⌝ }
-    ensures buffer { λ _. ⌜ now (image .exit)
-        ≡ imageWith (now (image .entry))
-        (after (stateIn (now (image .entry))) (eventsFrom (now (bytes .entry)) start (end - first))) ⌝ }
-    ensures records { λ _. ⌜ RecordedFrom from
-        (ledgerFrom first (stateIn (now (image .entry))) (eventsFrom (now (bytes .entry)) start (end - first)))
-        (now (ledger .entry)) (now (ledger .exit)) ⌝ }
+    ensures buffers { λ _. ⌜ Ran first from (now (image .entry)) (now (ledger .entry))
+        (eventsFrom (now (bytes .entry)) start (end - first)) (now (image .exit)) (now (ledger .exit)) ⌝ }
 {
     let mut counts: u64 = 0;
     let mut last = Outcome::Idle;

@@ -8,21 +8,6 @@ use Rattle.event.proofs.Works.{works}
 use Rattle.event.proofs.work.Statement.{statement}
 use Rattle.event.proofs.work.Tie as tie
 
-stage-requires : tie.Need-stage-requires
-stage-requires c κs = search needs
-
-note-requires : tie.Need-note-requires
-note-requires c κs = search needs
-
-cast-t9 : tie.Need-cast-t9
-cast-t9 c = search needs
-
-filled-requires : tie.Need-filled-requires
-filled-requires c κs = search needs
-
-becomes-requires : tie.Need-becomes-requires
-becomes-requires c κs = search needs
-
 returns : tie.Need-returns
 returns c =
     let start = c .before .before .before .before .before .before in
@@ -33,15 +18,6 @@ returns c =
     works (start .args .header) w (start .pre .0) (start .pre .1) true
     (eq-eqb (stageOf w) 4 (sym stage ∙ c .before .before .before .before .if1 .taken)) refl (header .0)
     (header .1 ∙ note) (c .becomes .ensures ∙ rw note)
-
-cast-message : tie.Need-cast-message
-cast-message c = search needs
-
-emptied-requires : tie.Need-emptied-requires
-emptied-requires c κs = search needs
-
-becomes-requires-2 : tie.Need-becomes-requires-2
-becomes-requires-2 c κs = search needs
 
 returns-2 : tie.Need-returns-2
 returns-2 c =
@@ -56,5 +32,5 @@ returns-2 c =
 pub work-spec : {M : Type 1} → statement M
 work-spec =
     tie.close
-    (tie.spec stage-requires note-requires cast-t9 filled-requires becomes-requires returns cast-message
-    emptied-requires becomes-requires-2 returns-2)
+    (tie.spec (search needs) (search needs) (search needs) (search needs) (search needs) returns (search needs)
+    (search needs) (search needs) returns-2)

@@ -9,20 +9,14 @@ outcome-number-requires : tie.Need-outcome-number-requires
 outcome-number-requires c κs = tt
 
 returns : tie.Need-returns
-returns c =
-    let a = c .before .before .before .args in
-    entered-none (a .number) (a .event .process) (a .outcome) (c .before .outcome-number .ensures) (a .ledger .now)
-    (a .at) (c .if1 .taken)
+returns c = entered-none _ _ _ (c .before .outcome-number .ensures) _ _ (c .if1 .taken)
 
 add-if2 : tie.Need-add-if2
 add-if2 c = omega arith
 
 returns-2 : tie.Need-returns-2
 returns-2 c =
-    let coded = c .before .before in
-    let a = coded .before .before .args in
-    entered-short (a .number) (a .event .process) (a .outcome) (coded .outcome-number .ensures) (c .before .if1 .left)
-    (a .ledger .now) (a .at) (omega arith)
+    entered-short _ _ _ (c .before .before .outcome-number .ensures) (c .before .if1 .left) _ _ (omega arith)
 
 outcome-message-requires : tie.Need-outcome-message-requires
 outcome-message-requires c κs = tt
@@ -41,10 +35,8 @@ returns-3 c =
     let put = c .before .before in
     let said = put .before .before .before in
     let left = said .before .before in
-    let coded = left .before in
-    let a = coded .before .before .args in
-    entered (a .number) (a .event .process) (a .outcome) (coded .outcome-number .ensures) (left .if1 .left)
-    (a .ledger .now) (a .at) (omega arith) (said .outcome-message .ensures) (put .put-record .ensures)
+    entered _ _ _ (left .before .outcome-number .ensures) (left .if1 .left) _ _ (omega arith)
+    (said .outcome-message .ensures) (put .put-record .ensures)
 
 pub enter-spec : {M : Type 1} → statement M
 enter-spec =

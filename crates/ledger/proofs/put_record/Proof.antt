@@ -27,10 +27,8 @@ returns c =
     let third = c .before .before in
     let second = third .before .before .before .before in
     let first = second .before .before .before .before in
-    let start = first .before .before .before in
-    let a = start .args in
-    stored (a .number) (a .process) (a .code) (a .message) (a .ledger .now) (a .at) (start .pre)
-    (first .put-number .ensures) (second .put-four .ensures) (third .put-number2 .ensures)
+    stored _ _ _ _ _ _ (first .before .before .before .pre) (first .put-number .ensures) (second .put-four .ensures)
+    (third .put-number2 .ensures)
 
 pub put-record-spec : {M : Type 1} → statement M
 put-record-spec =

@@ -1,22 +1,17 @@
 -- An event that isn't possible is idle; any other is applied, and its reaction is placed. Assumes nothing.
-use native.Mathlib.Omega.{arith}
 use borrow.Author.Needs.{needs}
-use Rattle.machine.proofs.Refusals.{image-fine, process-few, record-within}
+use Rattle.machine.proofs.Refusals.{image-fine}
 use Rattle.place.proofs.Ways.{may-test, idle-done, may-apply, may-place, moved-done}
 use Rattle.place.proofs.perform.Statement.{statement}
 use Rattle.place.proofs.perform.Tie as tie
 
 at-requires : tie.Need-at-requires
-at-requires c κs =
-    let start = c .before .before in
-    let s = start .args .image .now in
-    let i = start .args .event .process in
-    (process-few s i (start .pre .fine) (start .pre .below), record-within s i (start .pre .fine) (start .pre .below))
+at-requires c κs = let image = image-fine _ (c .before .before .pre .fine) in search needs
 
 is-possible-requires : tie.Need-is-possible-requires
 is-possible-requires c κs =
     let known = c .before .before in
-    may-test (λ k. omega (arith, known .slice-known .given k)) (known .before .pre) (c .at .ensures)
+    may-test (λ k. known .slice-known .given k .fits) (known .before .pre) (c .at .ensures)
 
 same-length : tie.Need-same-length
 same-length c = search needs
@@ -25,21 +20,18 @@ returns : tie.Need-returns
 returns c =
     let tested = c .before in
     let known = tested .before .before .before in
-    idle-done (λ k. omega (arith, known .slice-known .given k)) (known .before .pre) (tested .before .at .ensures)
+    idle-done (λ k. known .slice-known .given k .fits) (known .before .pre) (tested .before .at .ensures)
     (tested .is-possible .ensures) (c .if1 .taken)
 
 of-requires : tie.Need-of-requires
-of-requires c κs =
-    let start = c .before .before .before .before .before .before in
-    image-fine (start .args .image .now) (start .pre .fine) .header
+of-requires c κs = image-fine _ (c .before .before .before .before .before .before .pre .fine) .header
 
 apply-requires : tie.Need-apply-requires
 apply-requires c κs =
-    let left = c .before .before in
-    let tested = left .before in
+    let tested = c .before .before .before in
     let known = tested .before .before .before in
-    may-apply (λ k. omega (arith, known .slice-known .given k)) (known .before .pre) (tested .before .at .ensures)
-    (tested .is-possible .ensures) (left .if1 .left) (c .of .ensures)
+    may-apply (λ k. known .slice-known .given k .fits) (known .before .pre) (tested .before .at .ensures)
+    (tested .is-possible .ensures) (c .before .before .if1 .left) (c .of .ensures)
 
 size-requires : tie.Need-size-requires
 size-requires c κs = search needs
@@ -50,7 +42,7 @@ place-requires c κs =
     let left = applied .before .before .before in
     let tested = left .before in
     let known = tested .before .before .before in
-    may-place (λ k. omega (arith, known .slice-known .given k)) (known .before .pre) (tested .before .at .ensures)
+    may-place (λ k. known .slice-known .given k .fits) (known .before .pre) (tested .before .at .ensures)
     (tested .is-possible .ensures) (left .if1 .left) (applied .before .of .ensures) (applied .apply .ensures)
     (c .before .size .ensures)
 
@@ -65,7 +57,7 @@ returns-2 c =
     let left = applied .before .before .before in
     let tested = left .before in
     let known = tested .before .before .before in
-    moved-done (λ k. omega (arith, known .slice-known .given k)) (known .before .pre) (tested .before .at .ensures)
+    moved-done (λ k. known .slice-known .given k .fits) (known .before .pre) (tested .before .at .ensures)
     (tested .is-possible .ensures) (left .if1 .left) (applied .before .of .ensures) (applied .apply .ensures)
     (sized .size .ensures) (placed .place .ensures)
 

@@ -1,8 +1,8 @@
 -- Own record, header, and the neighbour that is reached, one after the other. Assumes nothing.
-use native.Mathlib.Omega.{arith}
 use borrow.Author.Needs.{needs}
-use Rattle.machine.proofs.Refusals.{image-fine, process-few, record-within}
-use Rattle.place.proofs.Written.{inside, few-asks, left-in, right-in, placed-own, placed-left, placed-right}
+use Rattle.machine.proofs.Refusals.{image-fine}
+use Rattle.place.proofs.Written.{few-asks, beside-left, beside-right, placed-own, placed-left}
+use Rattle.place.proofs.Written.{placed-right}
 use Rattle.place.proofs.place.Statement.{statement}
 use Rattle.place.proofs.place.Tie as tie
 
@@ -14,18 +14,14 @@ right-requires c κs = search needs
 
 put-requires : tie.Need-put-requires
 put-requires c κs =
-    let start = c .before .before .before .before .before .before in
-    let s = start .args .image .now in
-    let i = start .args .i in
-    let below = inside (start .pre) in
-    (process-few s i (start .pre .fine) below, record-within s i (start .pre .fine) below)
+    let image = image-fine _ (c .before .before .before .before .before .before .pre .fine) in
+    search needs
 
 put-requires-2 : tie.Need-put-requires-2
 put-requires-2 c κs =
-    let own = c .before .before .before in
-    let start = own .before .before .before .before .before .before .before in
-    let image = image-fine (start .args .image .now) (start .pre .fine) in
-    omega (arith, image .header, own .put .kept)
+    let start = c .before .before .before .before .before .before .before .before .before .before in
+    let image = image-fine _ (start .pre .fine) in
+    search needs
 
 enum-told : tie.Need-enum-told
 enum-told c = search needs
@@ -36,24 +32,25 @@ enum-known-reach c = search needs
 request-requires : tie.Need-request-requires
 request-requires c κs =
     let told = c .before .before in
-    let header = told .before .before .before .before in
-    let own = header .before .before .before .before in
-    let left = own .before .before .before in
-    let start = left .before .before .before .before in
-    let there = left-in (start .pre) (left .left .ensures) in
-    (there .0, omega (arith, there .1, header .put2 .kept, own .put .kept), few-asks (start .pre) (told .reach .given .1))
+    let right = told .before .before .before .before .before .before .before .before .before .before in
+    let left = right .before in
+    let pre = left .before .before .before .before .pre in
+    let image = image-fine _ (pre .fine) in
+    let to-left = beside-left pre (left .left .ensures) in
+    let to-right = beside-right pre (right .right .ensures) in
+    let few = few-asks pre (told .reach .given .1) in
+    search needs
 
 enum-told-2 : tie.Need-enum-told-2
 enum-told-2 c = search needs
 
 arrive-requires : tie.Need-arrive-requires
 arrive-requires c κs =
-    let header = c .before .before .before .before .before in
-    let own = header .before .before .before .before in
-    let right = own .before .before in
-    let start = right .before .before .before .before .before in
-    let there = right-in (start .pre) (right .right .ensures) in
-    (there .0, omega (arith, there .1, header .put2 .kept, own .put .kept))
+    let right = c .before .before .before .before .before .before .before .before .before .before .before in
+    let pre = right .before .before .before .before .before .pre in
+    let image = image-fine _ (pre .fine) in
+    let beside = beside-right pre (right .right .ensures) in
+    search needs
 
 same-length : tie.Need-same-length
 same-length c = search needs
@@ -63,8 +60,8 @@ returns c =
     let header = c .before .before .before .before in
     let own = header .before .before .before .before in
     let known = own .before .before .before .before .before .before in
-    placed-own (known .before .args .image .now) (λ k. omega (arith, known .slice-known .given k)) (known .before .pre)
-    (own .put .ensures) (header .put2 .ensures) (c .enum-told .given .1)
+    placed-own (λ k. known .slice-known .given k .fits) (known .before .pre) (own .put .ensures) (header .put2 .ensures)
+    (c .enum-told .given .1)
 
 same-length-2 : tie.Need-same-length-2
 same-length-2 c = search needs
@@ -77,7 +74,7 @@ returns-2 c =
     let own = header .before .before .before .before in
     let left = own .before .before .before in
     let known = left .before .before .before in
-    placed-left (known .before .args .image .now) (λ k. omega (arith, known .slice-known .given k)) (known .before .pre)
+    placed-left (λ k. known .slice-known .given k .fits) (known .before .pre)
     (own .put .ensures) (header .put2 .ensures) (told .reach .given .1) (left .left .ensures) (asked .request .ensures)
 
 same-length-3 : tie.Need-same-length-3
@@ -91,7 +88,7 @@ returns-3 c =
     let own = header .before .before .before .before in
     let right = own .before .before in
     let known = right .before .before .before .before in
-    placed-right (known .before .args .image .now) (λ k. omega (arith, known .slice-known .given k)) (known .before .pre)
+    placed-right (λ k. known .slice-known .given k .fits) (known .before .pre)
     (own .put .ensures) (header .put2 .ensures) (told .enum-told2 .given .1) (right .right .ensures)
     (arrived .arrive .ensures)
 

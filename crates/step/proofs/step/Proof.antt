@@ -31,8 +31,7 @@ same-length-2 c = omega arith
 
 returns-2 : tie.Need-returns-2
 returns-2 c =
-    let a = c .before .before .before .before .before .before .before .before .before .before .args in
-    image-refused (a .image .now) (a .event .now) (c .before .before .before .before .before .before .of .ensures)
+    image-refused _ _ (c .before .before .before .before .before .before .of .ensures)
     (c .before .before .before .before .checked2 .given .1 ∙ c .before .checked3 .given .1)
 
 parse-requires : tie.Need-parse-requires
@@ -62,10 +61,9 @@ same-length-4 c = omega arith
 returns-4 : tie.Need-returns-4
 returns-4 c =
     let parsed = c .before .before .before .before .before .before in
-    let checked = parsed .before .before .before .before in
-    let a = checked .before .before .before .before .args in
-    event-refused (a .image .now) (a .event .now) (checked .of .ensures) (parsed .before .before .checked .given .1)
-    (parsed .parse .ensures) (c .before .before .before .before .parsed .given .1 ∙ c .before .parsed2 .given .1)
+    event-refused _ _ (parsed .before .before .before .before .of .ensures) (parsed .before .before .checked .given .1)
+    (parsed .parse .ensures)
+    (c .before .before .before .before .parsed .given .1 ∙ c .before .parsed2 .given .1)
 
 slice-aggregate-turns : tie.Need-slice-aggregate-turns
 slice-aggregate-turns c = omega arith
@@ -73,10 +71,8 @@ slice-aggregate-turns c = omega arith
 turns-requires : tie.Need-turns-requires
 turns-requires c κs =
     let parsed = c .before .before .before .before in
-    let checked = parsed .before .before .before .before in
-    let a = checked .before .before .before .before .args in
-    may-turn (a .image .now) (a .event .now) (checked .of .ensures) (parsed .before .before .checked .given .1)
-    (parsed .parse .ensures) (c .before .before .enum-told2 .given .1)
+    may-turn _ _ (parsed .before .before .before .before .of .ensures) (parsed .before .before .checked .given .1)
+    (parsed .parse .ensures) (c .before .before .enum-told2 .given .1) (omega arith)
 
 same-length-5 : tie.Need-same-length-5
 same-length-5 c = omega arith
@@ -85,11 +81,9 @@ returns-5 : tie.Need-returns-5
 returns-5 c =
     let did = c .before .before .before in
     let parsed = did .before .before .before .before .before in
-    let checked = parsed .before .before .before .before in
-    let a = checked .before .before .before .before .args in
-    step-done (a .image .now) (a .event .now) (checked .of .ensures) (parsed .before .before .checked .given .1)
-    (parsed .parse .ensures) (did .before .before .before .enum-told2 .given .1)
-    (did .turns .ensures .0) (did .turns .ensures .1 .0)
+    step-done _ _ (parsed .before .before .before .before .of .ensures) (parsed .before .before .checked .given .1)
+    (parsed .parse .ensures)
+    (did .before .before .before .enum-told2 .given .1) (did .turns .ensures .0) (did .turns .ensures .1)
 
 pub step-spec : {M : Type 1} → statement M
 step-spec =

@@ -9,12 +9,6 @@ use Rattle.event.proofs.Possible.{possible}
 use Rattle.event.proofs.Event.is_possible.Statement.{statement}
 use Rattle.event.proofs.Event.is_possible.Tie as tie
 
-codes-at-requires : tie.Need-codes-at-requires
-codes-at-requires c κs = search needs
-
-need-of-requires : tie.Need-need-of-requires
-need-of-requires c κs = search needs
-
 returns : tie.Need-returns
 returns c =
     let known = c .before .before .before .before .before .pre in
@@ -26,4 +20,4 @@ returns c =
     rw (codes, need) (possible w (known .1) (known .2) code (known .0))
 
 pub is-possible-spec : {M : Type 1} → statement M
-is-possible-spec = tie.close (tie.spec codes-at-requires need-of-requires returns)
+is-possible-spec = tie.close (tie.spec (search needs) (search needs) returns)

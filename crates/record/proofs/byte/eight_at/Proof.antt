@@ -1,77 +1,9 @@
--- Eight bytes shifted apart and joined are their number. Assumes nothing.
-use Rattle.record.proofs.Laws.{eight-joined}
+-- Eight bytes shifted apart and joined are their number: each stands above those before. Assumes nothing.
+use mathlib.Core.Path.{sym, _∙_}
 use native.Mathlib.Omega.{arith}
+use Rattle.record.proofs.Laws.{number-1, byte-above}
 use Rattle.record.proofs.byte.eight_at.Statement.{statement}
 use Rattle.record.proofs.byte.eight_at.Tie as tie
-
-shared-slice-read-wide64 : tie.Need-shared-slice-read-wide64
-shared-slice-read-wide64 c = omega arith
-
-wide64-requires : tie.Need-wide64-requires
-wide64-requires c κs = tt
-
-add-wide64 : tie.Need-add-wide64
-add-wide64 c = omega arith
-
-shared-slice-read-wide64-2 : tie.Need-shared-slice-read-wide64-2
-shared-slice-read-wide64-2 c = omega arith
-
-wide64-requires-2 : tie.Need-wide64-requires-2
-wide64-requires-2 c κs = tt
-
-add-wide64-2 : tie.Need-add-wide64-2
-add-wide64-2 c = omega arith
-
-shared-slice-read-wide64-3 : tie.Need-shared-slice-read-wide64-3
-shared-slice-read-wide64-3 c = omega arith
-
-wide64-requires-3 : tie.Need-wide64-requires-3
-wide64-requires-3 c κs = tt
-
-add-wide64-3 : tie.Need-add-wide64-3
-add-wide64-3 c = omega arith
-
-shared-slice-read-wide64-4 : tie.Need-shared-slice-read-wide64-4
-shared-slice-read-wide64-4 c = omega arith
-
-wide64-requires-4 : tie.Need-wide64-requires-4
-wide64-requires-4 c κs = tt
-
-add-wide64-4 : tie.Need-add-wide64-4
-add-wide64-4 c = omega arith
-
-shared-slice-read-wide64-5 : tie.Need-shared-slice-read-wide64-5
-shared-slice-read-wide64-5 c = omega arith
-
-wide64-requires-5 : tie.Need-wide64-requires-5
-wide64-requires-5 c κs = tt
-
-add-wide64-5 : tie.Need-add-wide64-5
-add-wide64-5 c = omega arith
-
-shared-slice-read-wide64-6 : tie.Need-shared-slice-read-wide64-6
-shared-slice-read-wide64-6 c = omega arith
-
-wide64-requires-6 : tie.Need-wide64-requires-6
-wide64-requires-6 c κs = tt
-
-add-wide64-6 : tie.Need-add-wide64-6
-add-wide64-6 c = omega arith
-
-shared-slice-read-wide64-7 : tie.Need-shared-slice-read-wide64-7
-shared-slice-read-wide64-7 c = omega arith
-
-wide64-requires-7 : tie.Need-wide64-requires-7
-wide64-requires-7 c κs = tt
-
-add-wide64-7 : tie.Need-add-wide64-7
-add-wide64-7 c = omega arith
-
-shared-slice-read-wide64-8 : tie.Need-shared-slice-read-wide64-8
-shared-slice-read-wide64-8 c = omega arith
-
-wide64-requires-8 : tie.Need-wide64-requires-8
-wide64-requires-8 c κs = tt
 
 returns : tie.Need-returns
 returns c =
@@ -83,35 +15,20 @@ returns c =
     let second = third .before .before in
     let first = second .before .before in
     let a = first .before .before .before .args in
-    eight-joined (a .bytes .now) (a .at) (first .wide64 .ensures) (second .wide642 .ensures) (third .wide643 .ensures)
-    (fourth .wide644 .ensures) (fifth .wide645 .ensures) (sixth .wide646 .ensures) (seventh .wide647 .ensures)
-    (c .wide648 .ensures)
+    let up = byte-above (a .bytes .now) (λ k. omega (arith, c .before .shared-slice-known9 .given k)) (a .at) in
+    let one = first .wide64 .ensures .0 ∙ sym (number-1 (a .bytes .now) (a .at)) in
+    let two = up 1 _ _ (omega arith) one (second .wide642 .ensures .0) in
+    let three = up 2 _ _ (omega arith) two (third .wide643 .ensures .0) in
+    let four = up 3 _ _ (omega arith) three (fourth .wide644 .ensures .0) in
+    let five = up 4 _ _ (omega arith) four (fifth .wide645 .ensures .0) in
+    let six = up 5 _ _ (omega arith) five (sixth .wide646 .ensures .0) in
+    let seven = up 6 _ _ (omega arith) six (seventh .wide647 .ensures .0) in
+    up 7 _ _ (omega arith) seven (c .wide648 .ensures .0)
 
 pub eight-at-spec : {M : Type 1} → statement M
 eight-at-spec =
     tie.close
-    (tie.spec
-    shared-slice-read-wide64
-    wide64-requires
-    add-wide64
-    shared-slice-read-wide64-2
-    wide64-requires-2
-    add-wide64-2
-    shared-slice-read-wide64-3
-    wide64-requires-3
-    add-wide64-3
-    shared-slice-read-wide64-4
-    wide64-requires-4
-    add-wide64-4
-    shared-slice-read-wide64-5
-    wide64-requires-5
-    add-wide64-5
-    shared-slice-read-wide64-6
-    wide64-requires-6
-    add-wide64-6
-    shared-slice-read-wide64-7
-    wide64-requires-7
-    add-wide64-7
-    shared-slice-read-wide64-8
-    wide64-requires-8
+    (tie.spec (omega arith) (λ _ _. tt) (omega arith) (omega arith) (λ _ _. tt) (omega arith) (omega arith)
+    (λ _ _. tt) (omega arith) (omega arith) (λ _ _. tt) (omega arith) (omega arith) (λ _ _. tt) (omega arith)
+    (omega arith) (λ _ _. tt) (omega arith) (omega arith) (λ _ _. tt) (omega arith) (omega arith) (λ _ _. tt)
     returns)

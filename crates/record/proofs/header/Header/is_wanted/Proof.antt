@@ -1,17 +1,10 @@
+-- The header is tested under the mask that its status chooses (Headers). Assumes nothing.
 use mathlib.Core.Logic.{⊎-elim, inl, inr}
 use borrow.Author.Needs.{needs}
 use Rattle.record.proofs.Headers.{wanted-by}
 use Rattle.record.proofs.header.Header.is_wanted.Statement.{statement}
 use Rattle.record.proofs.header.Header.is_wanted.Tie as tie
-use Rattle.record.proofs.header.Header.is_wanted.Reads as reads
-use Rattle.record.proofs.header.Header.is_wanted.Lts as lts
-use Rattle.record.proofs.header.Header.is_full.Reads as is-full-reads
 
--- src/header.rt:120:24
-is-full-requires : tie.Need-is-full-requires
-is-full-requires c κs = search needs
-
--- src/header.rt:116:5
 returns : tie.Need-returns
 returns c =
     let h = c .before .before .before .before .args .self in
@@ -19,4 +12,4 @@ returns c =
     (⊎-elim (λ w. inl (w .1, w .0 .taken)) (λ w. inr (w .1, w .0 .left)) (c .before .before .if1 .came))
 
 pub is-wanted-spec : {M : Type 1} → statement M
-is-wanted-spec = tie.close (tie.spec is-full-requires returns)
+is-wanted-spec = tie.close (tie.spec (search needs) returns)
