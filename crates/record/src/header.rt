@@ -113,7 +113,7 @@ impl Header {
         }
     }
 
-    // Internal: whether the present status has its marker set or its count above 0.
+    // Internal: whether the envelope is wanted as it is: the marker of its status is on, or a process is marked for it.
     pub fn is_wanted(self) -> bool
         requires { ⌜ TidyHeader self ⌝ }
         ensures { λ r. ⌜ r ≡ rule.wanted (shownEnvelope self) ⌝ }

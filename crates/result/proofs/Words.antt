@@ -1,13 +1,12 @@
--- The words of a result slice: a word is two halves of four bytes; words written one after the other are one splice;
--- and zeros up to byte 80 are words of 0, so up to ten values are told as ten words. Assumes nothing.
-use Prim.Native.Nat.{ℕ, zero, suc, _+_, _-_, _*_, _/_, _%_, _^_, _≤_, _<_}
+-- The words of a result slice: words written one after the other are one splice; and zeros up to byte 80 are words of
+-- 0, so up to ten values are told as ten words. Assumes nothing.
+use Prim.Native.Nat.{ℕ, zero, suc, _+_, _-_, _*_, _≤_, _<_}
 use mathlib.Core.Path.{_≡_, refl, sym, ap, _∙_}
 use mathlib.Core.List.{List, [], _∷_, _++_, append-assoc}
 use native.Mathlib.Omega.{arith}
 use native.Mathlib.Numerals.{add-one}
 use lib.ListN.{length, getD, drop, replicate, length-append, replicate-append-replicate}
 use lib.Seq.{drop-cons, drop-length}
-use lib.Pow.{shr-shr, mod-mod-pow, field}
 use Rattle.machine.specs.Bytes.{bytes, splice}
 use Rattle.machine.specs.Host.{wordsOf, resultBytes}
 use Rattle.machine.proofs.Bytes.{length-bytes, splice-next}

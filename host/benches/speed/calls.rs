@@ -14,7 +14,7 @@ use std::hint::black_box;
 const SIZES: [u64; 3] = [2, 8, 64];
 const STEPS: usize = 65_536;
 const IMAGES: usize = 64;
-const BESIDE_SETS: &str = "plain gathers both sets of marked processes too";
+const BESIDE_SETS: &str = "beside plain with sets";
 
 pub fn measure(table: &mut Table, effort: Effort) {
     for n in SIZES {
