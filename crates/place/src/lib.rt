@@ -65,7 +65,8 @@ fn place(image: &mut [u8], ring: Ring, i: usize, r: Reaction)
 }
 
 // Internal: an event, performed on an image that is known to be sound. One that isn't possible changes no byte. It has
-// one caller, `turns::turns`, and so have the functions beneath it: only such a function is sure to be inlined there.
+// one call site, in `turns::turns`, and so have the test, `apply` and `put_at` beneath it: a large function is sure to
+// be inlined only where it has one.
 pub fn perform(image: &mut [u8], event: Event) -> Done
     requires { ⌜ Performable (now image) event ⌝ }
     ensures answer { λ r. ⌜ Performed (now (image .entry)) event r ⌝ }
