@@ -182,7 +182,7 @@ const fn tested<const FAULT: u8>(stage: usize, status: u64) -> u64 {
     tested
 }
 
-/// Whether events 2 to 7 are idle at every process of a sound image: the envelope and requests are
+/// Whether no event of the codes 2 to 7 is possible on a sound image: the envelope and requests are
 /// on no link, nobody has news, and no stage is one that main or get ends.
 #[inline(always)]
 pub fn stopped<const FAULT: u8>(records: &[[u8; 8]]) -> bool {

@@ -90,7 +90,7 @@ fn whole_run<const FAULT: u8>(
     run::run::<FAULT>(ring, tape, ledger)
 }
 
-/// Stopped: 1 if events 2 to 7 are idle at every process, else 0.
+/// Stopped: 1 if no event of the codes 2 to 7 is possible, else 0.
 pub fn ring_stopped<const FAULT: u8>(image: &[u8], result: &mut [u8]) -> u64 {
     let done = stopped::<FAULT>(image, result.len());
     answer::<FAULT>(result, done)

@@ -47,7 +47,7 @@ impl Counts {
         self.written.iter().sum::<u64>() as usize
     }
 
-    /// Puts and gets started, fills, takes, sent, got, idle, records.
+    /// The eight counts as an answer has them, starts first and records last.
     fn words<const FAULT: u8>(&self, events: usize) -> [u64; 8] {
         let [puts, gets, ..] = self.performed;
         let [.., fills, takes, sent, got] = self.written;

@@ -11,7 +11,7 @@ use std::fmt;
 /// | 2 | main works: it fills the envelope or takes the message |
 /// | 3 | get takes the local signal |
 /// | 4 | get takes the arriving envelope |
-/// | 5, 6 | get takes the link's request for full, for empty |
+/// | 5, 6 | get hears the right's request for a full, for an empty envelope |
 /// | 7 | put |
 ///
 /// Any values may be given: the calls refuse a process not below N, a code above 7, and a message

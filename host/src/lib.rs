@@ -192,7 +192,7 @@ pub fn run(image: &mut [u8], tape: &[u8], ledger: &mut [u8]) -> Result<Counts, R
     }
 }
 
-/// Tells whether a ring is stopped: events 2 to 7 are idle at every process, so that no main work,
+/// Tells whether a ring is stopped: no event of the codes 2 to 7 is possible, so that no main work,
 /// get or put could do anything more.
 ///
 /// # Errors

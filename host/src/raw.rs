@@ -1,10 +1,10 @@
 //! The three functions of the proved library, as they are: numbers and byte slices.
 //!
-//! What is returned is the refusal's number, and 0 if there is none. A result slice of at least 80 bytes gets ten 64-bit
-//! little-endian words at its start: outcome and message of a step, the eight counts of a run, 1 or 0 for a ring that is
-//! stopped or isn't, or the place of a refusal, and 0 in the words behind. In a shorter one nothing is written, and a call
-//! that is not refused otherwise is then refused with 10. [`crate::step`], [`crate::run`] and [`crate::stopped`] say the
-//! same with types.
+//! What is returned is the refusal's number, and 0 if there is none. A result slice of at least 80 bytes gets ten
+//! 64-bit little-endian words at its start: outcome and message of a step, the eight counts of a run, 1 or 0 for a ring
+//! that is stopped or isn't, or the place of a refusal, and 0 in the words behind. In a shorter one nothing is written,
+//! and a call that is not refused otherwise is then refused with 10. [`crate::step`], [`crate::run`] and
+//! [`crate::stopped`] say the same with types.
 //!
 //! This is the one module of the package with `unsafe`. It is sound because a slice passes as its own pointer and
 //! length, because the borrows keep the slices of a call apart and alive until it returns, and because the functions,
@@ -97,7 +97,7 @@ pub fn ring_run(image: &mut [u8], tape: &[u8], ledger: &mut [u8], result: &mut [
     }
 }
 
-/// Tells whether events 2 to 7 are idle at every process. Result word: 1 for yes, 0 for no; on a refusal the place.
+/// Tells whether no event of the codes 2 to 7 is possible. Result word: 1 for yes, 0 for no; on a refusal the place.
 ///
 /// ```
 /// use vengloaz::raw;

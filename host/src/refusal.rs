@@ -20,8 +20,8 @@ use crate::{word, RESULT};
 /// ```
 #[derive(Clone, Copy, Debug, PartialEq, Eq, Hash)]
 pub enum Refusal {
-    /// 1: N outside 2 to 64, where N is an argument. In this package's calls it isn't: there a
-    /// wrong N makes the image unsound.
+    /// 1: N, given as a number, below 2 or above 64. This package's calls are given no N: there a
+    /// wrong one makes the image unsound.
     RingSize,
     /// 2: home not below N. Home isn't an argument of this package's calls.
     Home,
@@ -73,7 +73,7 @@ impl Refusal {
         }
     }
 
-    /// The refusal's place: the event's number for 5, the block's for 7, 8 and 9, else 0.
+    /// Where: 5 has the number of the event, 7 to 9 that of the block; the others have 0.
     pub const fn place(self) -> u64 {
         match self {
             Refusal::Event { place } => place,

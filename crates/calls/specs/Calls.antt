@@ -25,7 +25,7 @@ imageAfter image (Step event) = stepImage image event
 imageAfter image (Run tape ledger) = runImage image tape ledger
 imageAfter image Stopped = image
 
--- each call gets the image as the call before it left it
+-- the image goes from call to call
 unfoldable pub imageAfterAll : List ℕ → List Call → List ℕ
 imageAfterAll image [] = image
 imageAfterAll image (c ∷ cs) = imageAfterAll (imageAfter image c) cs

@@ -30,7 +30,7 @@ hostImage image (Step event result) = lentWith result image (stepImage image eve
 hostImage image (Run tape ledger result) = lentWith result image (runImage image tape ledger)
 hostImage image (Stopped result) = image
 
--- each call gets the image as the call before it left it
+-- the image goes from call to call
 unfoldable pub hostImageAll : List ℕ → List HostCall → List ℕ
 hostImageAll image [] = image
 hostImageAll image (c ∷ cs) = hostImageAll (hostImage image c) cs

@@ -82,7 +82,7 @@ pub entry-5 :
 unfolding rules ring
 entry-5 = (refl, refl)
 
--- the tape of the one event 1.0 with 7: the check's halves, over the covered bytes and as written
+-- a tape whose only event is 1.0, message 7: the check's halves, over the covered bytes and as written
 pub entry-6 :
     (check (covered (tapeOf (event 1 0 7)) 0) ≡ 9 + 65536 * 2255)
     × (blockCheck (tapeOf (event 1 0 7)) 0 ≡ 9 + 65536 * 2255)

@@ -89,7 +89,7 @@ abbrev pub positive : ℕ → Bool
 positive zero = false
 positive (suc n) = true
 
--- the present status has its marker set or its count above 0
+-- somebody waits for the envelope as it is: the marker of its status is on, or a process is marked for it
 unfoldable pub wanted : Envelope → Bool
 wanted e = for (e .marker) (e .full) || positive (count (e .marked) (e .full))
 
@@ -228,7 +228,7 @@ place l i r =
 unfoldable pub reaction : State → Event → Reaction
 reaction st v = react (v .code) (v .message) (st .envelope) (processAt (st .processes) (v .process))
 
--- one of idle, moved, fill with message, take with message, sent, got
+-- what comes of an event, as a run records it or a step answers it
 unfoldable pub outcome : State → Event → Outcome
 outcome st v = reaction st v .outcome
 

@@ -28,7 +28,7 @@ numberOf (refusal.Block b) = 8
 numberOf (refusal.Unused b) = 9
 numberOf refusal.Output = 10
 
--- its place: the event's number for 5, the block's for 7, 8 and 9, else 0
+-- where: 5 has the number of the event, 7 to 9 that of the block; the others have 0
 abbrev pub placeOf : Refusal → ℕ
 placeOf refusal.Size = 0
 placeOf refusal.Home = 0
@@ -74,7 +74,7 @@ homeVerdict n home = unless (ltb home n) refusal.Home
 unfoldable pub roomVerdict : ℕ → List ℕ → Verdict
 roomVerdict n s = unless (leb (imageLength n) (length s)) refusal.Short
 
--- under 16 bytes is 3, then byte 0 is 4, then the length 3, then the rest 4
+-- in this order: no room for a header (3), a size that no ring has (4), no room for the records (3), not sound (4)
 unfoldable pub imageVerdict : List ℕ → Verdict
 imageVerdict s =
     orElse (unless (leb 16 (length s)) refusal.Short)

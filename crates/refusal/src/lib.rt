@@ -21,7 +21,7 @@ pub fn number_of(refusal: Refusal) -> usize
     }
 }
 
-// Internal: its place: the event's number for 5, the block's for 7, 8 and 9, else 0.
+// Internal: where: 5 has the number of the event, 7 to 9 that of the block; the others have 0.
 pub fn place_of(refusal: Refusal) -> usize
     ensures { λ r. ⌜ r ≡ placeOf refusal ⌝ }
 {

@@ -1,5 +1,5 @@
--- Why a call is refused whose result slice is too short: document 01, "The tape": the call is then 10 if nothing else
--- refuses it. Assumes nothing.
+-- Why a call is refused whose result slice is too short: its own tests come first, and 10 last. Document 01, "The tape".
+-- Assumes nothing.
 use Rattle.machine.specs.declared.Refusal.{Refusal}
 use Rattle.machine.specs.declared.Refusal.the-variants as refusal
 use Rattle.machine.specs.declared.Verdict.{Verdict}

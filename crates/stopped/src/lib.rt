@@ -1,5 +1,5 @@
-// The stopped call: yes exactly when events 2 to 7 are idle at every process. Document 01, "The eight events", its last
-// paragraph.
+// The stopped call: yes exactly when no process has an event of the codes 2 to 7 that would do anything. Document 01,
+// "The eight events", its last paragraph.
 use machine::Refusal;
 use record::byte::eight_at;
 use sound::Checked;

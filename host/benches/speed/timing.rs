@@ -47,7 +47,8 @@ pub struct Medians {
     pub ratio: f64,
 }
 
-/// Times passes of Rattle and of a baseline by turns: each round repeats the pass of a side until the least time is spent.
+/// Times passes of Rattle and of a baseline by turns: each round repeats the pass of a side until the least time is
+/// spent.
 pub fn by_turns(rounds: usize, least: Duration, base: &Side, mut pass: impl FnMut(&Side, &mut Spent)) -> Medians {
     let mut round = |side: &Side| {
         let mut spent = Spent::default();

@@ -116,7 +116,7 @@ fn fresh<A: Calls, B: Calls>(watch: &mut Watch<A, B>, n: usize, random: &mut Ran
     for home in 0..n {
         let image = watch.accepted(&case(home as u64, length + random.index(3), 80), 0)?;
         let due = (0..length).all(|k| image[k] == if k == 0 { n as u8 } else { u8::from(k == 17 + 8 * home) });
-        assert!(due, "a fresh ring is all zero but N and have at its home: {image:?}");
+        assert!(due, "other bytes than N and the flag of its home are set: {image:?}");
     }
     let n = n as u64;
     for home in [n, n + 1, 64 + n, 256, 256 + n - 1, 1 << 32, (1 << 32) + n - 1, u64::MAX] {
