@@ -13,13 +13,20 @@ use Rattle.machine.specs.Events.{putAt, react}
 use Rattle.record.specs.declared.process.Record.{Record}
 use Rattle.record.specs.declared.header.Header.{Header}
 use Rattle.record.specs.Words.{stageOf, shownProcess, shownEnvelope, Tidy}
+use Rattle.reaction.specs.declared.Reaction.{Reaction}
+use Rattle.reaction.specs.declared.Reach.the-variants.{Own}
+use Rattle.reaction.specs.Reaction.{Ruled, shown, Fits, Begun, Counted, Makes}
 use Rattle.event.specs.declared.Event.{Event}
 use Rattle.event.specs.declared.Row.{Row}
-use Rattle.event.specs.declared.Reaction.{Reaction}
-use Rattle.event.specs.declared.Reach.the-variants.{Own}
-use Rattle.event.specs.Rows.{rowOf}
-use Rattle.event.specs.Reaction.{Ruled, shown, Fits, Begun, Counted, Makes, worked, Applicable, Reacts}
+use Rattle.event.specs.Rows.{startedBy, rowOf}
+use Rattle.event.specs.Applied.{worked, Applicable, Reacts}
+use Rattle.event.proofs.Codes.{by-code}
 use Rattle.event.proofs.Next.{Next, next}
+
+-- what a row counts as started is its code's
+row-starts : (code : ℕ) → code < 8 → rowOf code .started ≡ startedBy code
+unfolding rowOf
+row-starts = by-code (λ k. rowOf k .started ≡ startedBy k) refl refl refl refl refl refl refl refl
 
 module _ {v : Event} {header : Header} {own : Record} {row : Row} (known : Applicable v header own)
     (read : row ≡ rowOf (v .code % 8)) where
@@ -68,11 +75,11 @@ module _ {v : Event} {header : Header} {own : Record} {row : Row} (known : Appli
 
   -- ---- what came of it
 
-  counts : row .started ≡ rowOf (v .code) .started
-  counts = ap (λ x. x .started) row-is
+  counts : row .started ≡ startedBy (v .code)
+  counts = ap (λ x. x .started) row-is ∙ row-starts (v .code) (known .code)
 
   abbrev Answers : Reaction → Type 0
-  Answers r = Reacts ruled header (rowOf (v .code) .started) r
+  Answers r = Reacts ruled header (startedBy (v .code)) r
 
   pub after-put : {r t : Reaction} → r ≡ begin → v .code ≡ 7 → Makes (putAt (stageOf (r .own .word))) r t → Answers t
   after-put is seven made =
@@ -87,7 +94,6 @@ module _ {v : Event} {header : Header} {own : Record} {row : Row} (known : Appli
 
   pub after-work : {t : Reaction} → v .code ≡ 2
       → Reacts (worked (shownEnvelope header) (shownProcess word)) header 0 t → Answers t
-  unfolding rowOf
   after-work two made =
       let not-seven = ne-eqb (v .code) 7 (λ is. omega arith) in
       record {

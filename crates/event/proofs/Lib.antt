@@ -5,10 +5,4 @@ pub mod Codes
 pub mod Possible
 pub mod Next
 pub mod Works
-pub mod Bits
-pub mod Made
-pub mod Passed
-pub mod Marks
-pub mod Forward
-pub mod Stages
 pub mod Applied

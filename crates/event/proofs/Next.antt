@@ -27,7 +27,7 @@ use Rattle.record.specs.Words.{stageOf, flagsOf, requestsOf, spareOf, noteOf, s
 use Rattle.record.proofs.Fields.{Fields, shows, is-tidy, all-ones}
 use Rattle.record.proofs.Changes.{stepped}
 use Rattle.event.specs.Rows.{rowOf}
-use Rattle.event.specs.Reaction.{worked}
+use Rattle.event.specs.Applied.{worked}
 use Rattle.event.proofs.Codes.{by-code}
 
 -- ---- the rows, field by field

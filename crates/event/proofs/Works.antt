@@ -22,9 +22,9 @@ use Rattle.record.specs.Words.{stageOf, flagsOf, requestsOf, spareOf, noteOf, s
 use Rattle.record.specs.Words.{TidyHeader}
 use Rattle.record.proofs.Fields.{Fields, shows, is-tidy, fields-of, all-ones, set-in, off-in, without-note}
 use Rattle.record.proofs.Headers.{shows-envelope, is-tidy-header}
-use Rattle.event.specs.declared.Reaction.{Reaction}
-use Rattle.event.specs.declared.Reach.the-variants.{Own}
-use Rattle.event.specs.Reaction.{worked, Reacts}
+use Rattle.reaction.specs.declared.Reaction.{Reaction}
+use Rattle.reaction.specs.declared.Reach.the-variants.{Own}
+use Rattle.event.specs.Applied.{worked, Reacts}
 
 module _ (header : Header) (w : ℕ) (tidy : Tidy w) (fine : TidyHeader header) where
   abbrev hw : ℕ

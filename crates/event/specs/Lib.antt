@@ -1,4 +1,4 @@
 -- What this crate's contracts cite beside the rules.
 pub mod Parsed
 pub mod Rows
-pub mod Reaction
+pub mod Applied

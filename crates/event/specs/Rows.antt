@@ -31,19 +31,20 @@ needOf code =
     cond (eqb code 4) (2 ^ 9)
     (cond (eqb code 5) (2 ^ 22) (cond (eqb code 6) (2 ^ 23) (cond (eqb code 7) (2 ^ 10) (2 ^ (24 + code)))))
 
-abbrev row : ℕ → ℕ → ℕ → Row
-row off on started = record { off = off; on = on; started = started }
+-- what a code counts as started, in a byte of its own: a put in the seventh, a get in the eighth
+abbrev pub startedBy : ℕ → ℕ
+startedBy code = 2 ^ 48 * bit (eqb code 0) + 2 ^ 56 * bit (eqb code 1)
 
 -- what a code turns off in its own record, what it then adds, and what it counts as started. Bits 8 to 10 are have,
--- arriving and news; 16 and 17 asked by the right, 22 and 23 the link's requests, full the lower one; 48 and 56 a put
--- and a get that started
+-- arriving and news; 16 and 17 asked by the right, 22 and 23 the link's requests, full the lower one
 unfoldable pub rowOf : ℕ → Row
 rowOf code =
-    cond (eqb code 0) (row (2 ^ 64 - 2 ^ 32) 1 (2 ^ 48))
-    (cond (eqb code 1) (row 0 6 (2 ^ 56))
-    (cond (eqb code 2) (row 0 1 0)
-    (cond (eqb code 3) (row (2 ^ 10) (2 ^ 10 + 1) 0)
-    (cond (eqb code 4) (row (2 ^ 10 + 2 ^ 9 + 2 ^ 8) (2 ^ 10 + 2 ^ 8) 0)
-    (cond (eqb code 5) (row (2 ^ 22 + 2 ^ 16 + 2 ^ 10) (2 ^ 16 + 2 ^ 10) 0)
-    (cond (eqb code 6) (row (2 ^ 23 + 2 ^ 17 + 2 ^ 10) (2 ^ 17 + 2 ^ 10) 0)
-    (row (2 ^ 10) 0 0)))))))
+    let row : ℕ → ℕ → Row = λ off on. record { off = off; on = on; started = startedBy code } in
+    cond (eqb code 0) (row (2 ^ 64 - 2 ^ 32) 1)
+    (cond (eqb code 1) (row 0 6)
+    (cond (eqb code 2) (row 0 1)
+    (cond (eqb code 3) (row (2 ^ 10) (2 ^ 10 + 1))
+    (cond (eqb code 4) (row (2 ^ 10 + 2 ^ 9 + 2 ^ 8) (2 ^ 10 + 2 ^ 8))
+    (cond (eqb code 5) (row (2 ^ 22 + 2 ^ 16 + 2 ^ 10) (2 ^ 16 + 2 ^ 10))
+    (cond (eqb code 6) (row (2 ^ 23 + 2 ^ 17 + 2 ^ 10) (2 ^ 17 + 2 ^ 10))
+    (row (2 ^ 10) 0)))))))

@@ -3,6 +3,9 @@
 // Document 01, "The eight events".
 use machine::Outcome;
 use machine::Refusal;
+use reaction::Reach;
+use reaction::Reaction;
+use reaction::put::put_at;
 use record::byte::number_at;
 use record::byte::wide;
 use record::header::Header;
@@ -16,10 +19,8 @@ ghost use Rattle.machine.specs.Refusals.{codes as known, eventFits, eventVerdic
 ghost use Rattle.machine.specs.Events as rule;
 ghost use Rattle.record.specs.Words.{stageOf, shownProcess, shownEnvelope, Tidy, TidyHeader};
 ghost use Rattle.event.specs.Parsed.{eventOf, parsedAs};
-ghost use Rattle.event.specs.Rows.{codesAt, needOf, rowOf, Possible};
-ghost use Rattle.event.specs.Reaction.{leavesIn, worked, Applicable, Reacts};
-
-pub mod put; // put.rt: the put thread, code 7
+ghost use Rattle.event.specs.Rows.{codesAt, needOf, startedBy, rowOf, Possible};
+ghost use Rattle.event.specs.Applied.{worked, Applicable, Reacts};
 
 // At which process, its code, and the message of code 0.
 pub struct Event {
@@ -32,37 +33,6 @@ pub struct Event {
 pub enum Parsed {
     Done(Event),
     Refused(Refusal),
-}
-
-// Which neighbour an event reaches: none, the left with requests for its link, or the right with the envelope. Requests
-// are 0 to 3: a put without the envelope always reaches the left, since whether it asks for anything can't be foreseen.
-pub enum Reach {
-    Own,
-    Left(u64),
-    Right,
-}
-
-impl Reach {
-    // Whether the envelope leaves.
-    fn leaves(self) -> bool
-        ensures { λ r. ⌜ r ≡ leavesIn self ⌝ }
-    {
-        match self {
-            Reach::Own => false,
-            Reach::Left(_) => false,
-            Reach::Right => true,
-        }
-    }
-}
-
-// What an event does: to its own record and to the header, which neighbour it reaches, what it counts as started, and
-// the outcome.
-pub struct Reaction {
-    pub own: Record,
-    pub header: Header,
-    pub reach: Reach,
-    pub started: u64,
-    pub outcome: Outcome,
 }
 
 // Codes 0 to 3 as bits of byte 3, which is zero in a record.
@@ -290,7 +260,7 @@ impl Event {
         requires { ⌜ Applicable self header own ⌝ }
         ensures { λ r. ⌜ Reacts
             (rule.react (self .code) (self .message) (shownEnvelope header) (shownProcess (own .word))) header
-            (rowOf (self .code) .started) r ⌝ }
+            (startedBy (self .code)) r ⌝ }
     {
         let code = self.code;
         let row = row_of(code % 8);
@@ -300,7 +270,7 @@ impl Event {
                 + self.message as u64 * 0x1_0000_0000,
         };
         if code == 7 {
-            return put::put_at(becomes(Outcome::Moved, header, next, row.started));
+            return put_at(becomes(Outcome::Moved, header, next, row.started));
         }
         if code == 2 {
             return work(header, next);

@@ -1,20 +1,16 @@
--- Each way through this crate's functions is the rule's: an outcome below 2 enters nothing, and three stores of four
--- bytes one after the other are one record. Assumes nothing.
+-- Each way through this crate's functions is the rule's: three stores of four bytes one after the other are one record,
+-- and it is left out where it has no room. Assumes nothing.
 use Prim.Native.Nat.{ℕ, _+_, _≤_, _<_}
-use mathlib.Core.Path.{_≡_, refl, ap, _∙_}
-use mathlib.Core.Bool.{cond}
+use mathlib.Core.Path.{_≡_, ap, _∙_}
 use mathlib.Core.List.{List, [], _∷_, _++_, append-assoc}
 use native.Mathlib.Omega.{arith}
 use lib.ListN.{length, length-append}
-use lib.Dec.{leb}
 use borrow.Author.Tests.{le-leb, lt-leb}
 use Rattle.machine.specs.declared.Outcome.{Outcome}
 use Rattle.machine.specs.Bytes.{bytes, splice}
 use Rattle.machine.specs.Run.{outcomeNumber, outcomeMessage, ledgerRecord, ledgerEntry}
 use Rattle.machine.proofs.Bytes.{length-bytes, splice-next}
-use Rattle.machine.proofs.Ways.{choice}
 use Rattle.machine.proofs.Tallies.{length-record}
-use Rattle.span.proofs.Laws.{splice-none}
 use Rattle.ledger.specs.Record.{recordOf, enteredIn}
 
 -- ---- a record
@@ -37,31 +33,23 @@ stored number process code message s at room first second third =
 pub has-room : (s : List ℕ) (at : ℕ) (bs : List ℕ) → at + length bs ≤ length s → enteredIn s at bs ≡ splice s at bs
 has-room s at bs room = rw (le-leb (at + length bs) (length s) room)
 
-module _ (number process : ℕ) (o : Outcome) {code : ℕ} (is : code ≡ outcomeNumber o) where
-  -- idle and moved have no record
-  pub entered-none : (s : List ℕ) (at : ℕ) → code < 2 → s ≡ enteredIn s at (ledgerEntry number process o)
+module _ (number process : ℕ) (o : Outcome) (many : 2 ≤ outcomeNumber o) where
+  entry-record : ledgerEntry number process o ≡ ledgerRecord number process o
   unfolding ledgerEntry
-  entered-none s at few =
-      rw (lt-leb 2 (outcomeNumber o) (omega arith))
-      (choice (λ m. s ≡ m) (leb (at + 0) (length s)) (splice s at []) s (splice-none s at) refl)
+  entry-record = rw (le-leb 2 (outcomeNumber o) many)
 
-  module _ (many : 2 ≤ code) where
-    entry-record : ledgerEntry number process o ≡ ledgerRecord number process o
-    unfolding ledgerEntry
-    entry-record = rw (le-leb 2 (outcomeNumber o) (omega arith))
+  entry-long : length (ledgerEntry number process o) ≡ 12
+  entry-long = ap length entry-record ∙ length-record number process o
 
-    entry-long : length (ledgerEntry number process o) ≡ 12
-    entry-long = ap length entry-record ∙ length-record number process o
+  -- a record without room is left out
+  pub entered-short : (s : List ℕ) (at : ℕ) → length s < at + 12 → s ≡ enteredIn s at (ledgerEntry number process o)
+  entered-short s at short =
+      rw (lt-leb (at + length (ledgerEntry number process o)) (length s) (omega (arith, entry-long)))
 
-    -- a record without room is left out
-    pub entered-short : (s : List ℕ) (at : ℕ) → length s < at + 12 → s ≡ enteredIn s at (ledgerEntry number process o)
-    entered-short s at short =
-        rw (lt-leb (at + length (ledgerEntry number process o)) (length s) (omega (arith, entry-long)))
-
-    -- a record of its number and message is the entry
-    pub entered : (s : List ℕ) (at : ℕ) {t : List ℕ} {message : ℕ} → at + 12 ≤ length s → message ≡ outcomeMessage o
-        → t ≡ splice s at (recordOf number process code message)
-        → t ≡ enteredIn s at (ledgerEntry number process o)
-    unfolding ledgerRecord
-    entered s at room said wrote =
-        rw (wrote, said, is, ← entry-record, has-room s at (ledgerEntry number process o) (omega (arith, entry-long)))
+  -- a record of its number and message is the entry
+  pub entered : (s : List ℕ) (at : ℕ) {t : List ℕ} {code message : ℕ} → at + 12 ≤ length s → code ≡ outcomeNumber o
+      → message ≡ outcomeMessage o → t ≡ splice s at (recordOf number process code message)
+      → t ≡ enteredIn s at (ledgerEntry number process o)
+  unfolding ledgerRecord
+  entered s at room is said wrote =
+      rw (wrote, said, is, ← entry-record, has-room s at (ledgerEntry number process o) (omega (arith, entry-long)))

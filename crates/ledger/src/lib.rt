@@ -48,20 +48,17 @@ pub fn put_record(ledger: &mut [u8], at: usize, number: u32, process: u8, code: 
     put_number(ledger, at + 8, message);
 }
 
-// Internal: what an event with this number adds to the ledger, written from `at` on: a record of 12 bytes, or nothing,
-// and nothing where the ledger has no room for it.
+// Internal: the record of a fill, take, sent or got of an event with this number, written from `at` on where the ledger
+// has room for it.
 pub fn enter(ledger: &mut [u8], at: usize, number: u32, event: Event, outcome: Outcome)
-    requires { ⌜ (event .process < 256) × (at ≤ 4294967295) ⌝ }
+    requires { ⌜ (event .process < 256) × (at ≤ 4294967295) × (2 ≤ outcomeNumber outcome) ⌝ }
     ensures { λ _. ⌜ now (ledger .exit)
         ≡ enteredIn (now (ledger .entry)) at (ledgerEntry number (event .process) outcome) ⌝ }
 {
-    let code = outcome_number(outcome);
-    if code < 2 {
-        return;
-    }
     if ledger.len() < at + 12 {
         return;
     }
+    let code = outcome_number(outcome);
     let message = outcome_message(outcome);
     put_record(ledger, at, number, event.process as u8, code, message);
 }

@@ -1,23 +1,20 @@
 -- Each way through an event on an image: one that isn't possible is idle and leaves the image as it is; any other is
 -- the rule's reaction at its process, placed. What lower functions answered is a variable here, with the value that it
 -- is known to be. Assumes nothing.
-use Prim.Native.Nat.{ℕ, _+_, _*_, _%_, _≤_, _<_}
+use Prim.Native.Nat.{ℕ, _%_, _≤_, _<_}
 use mathlib.Core.Path.{_≡_, refl, sym, ap, _∙_}
-use mathlib.Core.Bool.{Bool, true, false, not, _&&_, and-false, true≢false}
+use mathlib.Core.Bool.{Bool, true, false, not}
 use mathlib.Core.List.{List}
 use native.Mathlib.Omega.{arith}
-use lib.Dec.{eqb}
 use borrow.Author.Tests.{not-true, not-false}
 use Rattle.machine.specs.declared.Envelope.{Envelope}
 use Rattle.machine.specs.declared.Process.{Process}
-use Rattle.machine.specs.declared.Outcome.{Outcome}
-use Rattle.machine.specs.declared.Outcome.the-variants.{Idle, Moved, Fill, Take, Sent, Got}
+use Rattle.machine.specs.declared.Outcome.the-variants.{Idle}
 use Rattle.machine.specs.declared.Reaction as rule-reaction
-use Rattle.machine.specs.Bytes.{Bytes, bit, number}
+use Rattle.machine.specs.Bytes.{Bytes, number}
 use Rattle.machine.specs.Ring.{recordAt}
 use Rattle.machine.specs.Image.{sizeIn, stateIn, imageWith}
 use Rattle.machine.specs.Events as rule
-use Rattle.machine.specs.Run.{outcomeNumber}
 use Rattle.machine.specs.Stopped.{isIdle}
 use Rattle.machine.proofs.Rewrite.{rewrite-image}
 use Rattle.machine.proofs.Refusals.{image-fine}
@@ -30,38 +27,13 @@ use Rattle.record.specs.declared.process.Record.{Record}
 use Rattle.record.specs.declared.header.Header.{Header}
 use Rattle.record.specs.Words.{stageOf, shownProcess, shownEnvelope, Tidy}
 use Rattle.record.proofs.Images.{Read, sound-read, header-shows, header-tidy, header-size}
+use Rattle.reaction.specs.declared.Reaction.{Reaction}
+use Rattle.reaction.specs.Reaction.{shown, Ruled}
 use Rattle.event.specs.declared.Event.{Event}
-use Rattle.event.specs.declared.Reaction.{Reaction}
 use Rattle.event.specs.Parsed.{ruled}
-use Rattle.event.specs.Rows.{Possible, rowOf}
-use Rattle.event.specs.Reaction.{shown, Ruled, Applicable, Reacts}
-use Rattle.event.proofs.Codes.{by-code}
-use Rattle.place.specs.Performed.{Placeable, placed, Performable, startedAs, Performed}
-
--- ---- what counts as started
-
--- nothing of an idle event
-idle-starts : (code : ℕ) → 0 ≡ startedAs code Idle
-idle-starts code = simp and-false
-
-some-number : (o : Outcome) → isIdle o ≡ false → eqb (outcomeNumber o) 0 ≡ false
-some-number Idle h = absurd (true≢false h)
-some-number Moved h = refl
-some-number (Fill m) h = refl
-some-number (Take m) h = refl
-some-number Sent h = refl
-some-number Got h = refl
-
--- of any other what its row says
-row-starts : (code : ℕ) (o : Outcome) → code < 8 → isIdle o ≡ false → rowOf code .started ≡ startedAs code o
-unfolding rowOf
-row-starts code o few moves =
-    rw (some-number o moves)
-    (by-code (λ k. rowOf k .started
-    ≡ 281474976710656 * bit (eqb k 0 && true) + 72057594037927936 * bit (eqb k 1 && true)) refl refl refl refl refl refl
-    refl refl code few)
-
--- ---- an event
+use Rattle.event.specs.Rows.{Possible, startedBy}
+use Rattle.event.specs.Applied.{Applicable, Reacts}
+use Rattle.place.specs.Performed.{Placeable, placed, Performable, Performed}
 
 module _ {s : List ℕ} (small : Bytes s) {event : Event} (ready : Performable s event) {own : Record}
     (read : own .word ≡ number s (recordAt (event .process)) 8) where
@@ -100,7 +72,7 @@ module _ {s : List ℕ} (small : Bytes s) {event : Event} (ready : Performable s
       not-false _ (sym (said-by test) ∙ not-true b off) in (
         record {
           said = sym (idle-is (rule.outcome (stateIn s) (ruled event)) idle);
-          counts = idle-starts (event .code);
+          counts = refl;
         },
         sym (rewrite-image s (image .room) small (image .fits))
             ∙ ap (imageWith s) (sym (idle-keeps (stateIn s) (ruled event) idle)),
@@ -147,7 +119,7 @@ module _ {s : List ℕ} (small : Bytes s) {event : Event} (ready : Performable s
     module _ {r : Reaction}
         (reacts : Reacts
         (rule.react (event .code) (event .message) (shownEnvelope header) (shownProcess (own .word))) header
-        (rowOf (event .code) .started) r) {n : ℕ} (size : n ≡ header .word % 256) where
+        (startedBy (event .code)) r) {n : ℕ} (size : n ≡ header .word % 256) where
       n-is : header .word % 256 ≡ sizeIn s
       n-is = rw (head .0) (header-size s (ready .fine) small)
 
@@ -170,7 +142,7 @@ module _ {s : List ℕ} (small : Bytes s) {event : Event} (ready : Performable s
           let said : r .outcome ≡ rule.outcome (stateIn s) (ruled event) = ap (λ (x : Ruled). x .outcome) same in (
             record {
               said = said;
-              counts = reacts .counts ∙ row-starts (event .code) (r .outcome) (ready .code) (ap isIdle said ∙ moves);
+              counts = reacts .counts ∙ rw (ap isIdle said ∙ moves);
             },
             wrote ∙ rw (← same),
           )

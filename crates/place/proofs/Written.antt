@@ -26,10 +26,10 @@ use Rattle.machine.proofs.Idle.{unchanged}
 use Rattle.record.specs.Words.{shownProcess, shownEnvelope, Tidy}
 use Rattle.record.proofs.Images.{Read, record-read, record-written, header-written}
 use Rattle.record.proofs.Neighbours.{requested-shown, arrived-shown}
-use Rattle.event.specs.declared.Reach.{Reach}
-use Rattle.event.specs.declared.Reach.the-variants.{Own, Left, Right}
-use Rattle.event.specs.declared.Reaction.{Reaction}
-use Rattle.event.specs.Reaction.{asksIn, leavesIn}
+use Rattle.reaction.specs.declared.Reach.{Reach}
+use Rattle.reaction.specs.declared.Reach.the-variants.{Own, Left, Right}
+use Rattle.reaction.specs.declared.Reaction.{Reaction}
+use Rattle.reaction.specs.Reaction.{asksIn, leavesIn}
 use Rattle.place.specs.Performed.{Placeable, placed}
 
 -- the state with the record of process k changed

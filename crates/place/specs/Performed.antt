@@ -1,21 +1,20 @@
 -- What must be known before a reaction is written and before an event is performed, and what is then so. Assumes
 -- nothing.
-use Prim.Native.Nat.{ℕ, _+_, _*_, _%_, _^_, _<_}
+use Prim.Native.Nat.{ℕ, _%_, _^_, _<_}
 use mathlib.Core.Path.{_≡_}
-use mathlib.Core.Bool.{not, _&&_}
+use mathlib.Core.Bool.{cond}
 use mathlib.Core.List.{List}
-use lib.Dec.{eqb}
 use Rattle.machine.specs.declared.Outcome.{Outcome}
 use Rattle.machine.specs.declared.Verdict.the-variants.{Fine}
-use Rattle.machine.specs.Bytes.{bit}
 use Rattle.machine.specs.Image.{State, sizeIn, stateIn}
 use Rattle.machine.specs.Events as rule
-use Rattle.machine.specs.Run.{outcomeNumber}
+use Rattle.machine.specs.Stopped.{isIdle}
 use Rattle.machine.specs.Refusals.{imageVerdict}
+use Rattle.reaction.specs.declared.Reaction.{Reaction}
+use Rattle.reaction.specs.Reaction.{shown, Fits}
 use Rattle.event.specs.declared.Event.{Event}
-use Rattle.event.specs.declared.Reaction.{Reaction}
 use Rattle.event.specs.Parsed.{ruled}
-use Rattle.event.specs.Reaction.{shown, Fits}
+use Rattle.event.specs.Rows.{startedBy}
 use Rattle.place.specs.declared.Done.{Done}
 
 -- ---- a reaction written
@@ -46,11 +45,9 @@ pub record Performable (s : List ℕ) (event : Event) : Type 0 where
   pub message : event .message < 2 ^ 32
   pub silent : (event .code ≡ 0 → ⊥) → event .message ≡ 0
 
--- what an event counts as started, in a byte of its own: a put in the seventh, a get in the eighth
+-- what an event counts as started: an idle one nothing
 abbrev pub startedAs : ℕ → Outcome → ℕ
-startedAs code o =
-    281474976710656 * bit (eqb code 0 && not (eqb (outcomeNumber o) 0))
-    + 72057594037927936 * bit (eqb code 1 && not (eqb (outcomeNumber o) 0))
+startedAs code o = cond (isIdle o) 0 (startedBy code)
 
 -- the outcome is the rule's, and a start counts
 pub record Performed (s : List ℕ) (event : Event) (r : Done) : Type 0 where

@@ -1,10 +1,10 @@
 // An event performed on an image: its reaction, written into its own record, the header and the record of the neighbour
 // that it reaches. Document 01, "The eight events".
 use event::Event;
-use event::Reach;
-use event::Reaction;
 use image::Ring;
 use machine::Outcome;
+use reaction::Reach;
+use reaction::Reaction;
 use record::header::Header;
 use record::process::Record;
 ghost use mathlib.Core.Path.{_≡_};

@@ -2,6 +2,7 @@
 -- starts; no byte goes above 63, so the bytes are the counts. Assumes nothing.
 use Prim.Native.Nat.{ℕ, zero, suc, _+_, _*_, _/_, _%_, _^_, _≤_, _<_}
 use mathlib.Core.Path.{_≡_, refl}
+use mathlib.Core.Bool.{not, _&&_, and-true, and-false}
 use mathlib.Core.List.{List, [], _∷_}
 use native.Mathlib.Nat.{pow-succ', zero-div, div-div-eq-div-mul}
 use native.Mathlib.Omega.{arith}
@@ -27,6 +28,17 @@ use Rattle.turns.specs.Turns.{byteOf, added}
 -- what an event adds to the word
 abbrev pub weight : ℕ → Outcome → ℕ
 weight code o = startedAs code o + 2 ^ (8 * outcomeNumber o)
+
+-- a start counts in the byte of its kind, and of an idle event none does
+pub starts : (code : ℕ) (o : Outcome) → startedAs code o
+    ≡ 281474976710656 * bit (eqb code 0 && not (eqb (outcomeNumber o) 0))
+    + 72057594037927936 * bit (eqb code 1 && not (eqb (outcomeNumber o) 0))
+starts code Idle = simp and-false
+starts code Moved = simp and-true
+starts code (Fill m) = simp and-true
+starts code (Take m) = simp and-true
+starts code Sent = simp and-true
+starts code Got = simp and-true
 
 -- counts a byte each; the events that moved something and have no record are in none of the eight
 abbrev laid : ℕ → Counts → List ℕ
@@ -75,7 +87,7 @@ packed-more code o p =
       few = omega (arith, bit-le (eqb (outcomeNumber o) 1));
       above = counted-above code o (p .above);
       records = omega (arith, numbered o .entry);
-      is = omega (arith, numbered o .byte);
+      is = omega (arith, numbered o .byte, starts code o);
     }
 
 -- ---- at most 63 events

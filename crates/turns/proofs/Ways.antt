@@ -1,35 +1,37 @@
 -- One turn of the loop, each way that it goes: idle, moved without a record, or with one. What the lower functions
 -- answered is a variable here, with the value that it is known to be. Assumes nothing.
 use Prim.Native.Nat.{ℕ, _+_, _*_, _%_, _^_, _≤_, _<_}
-use mathlib.Core.Path.{_≡_, sym, ap, _∙_}
+use mathlib.Core.Path.{_≡_, refl, sym, ap, _∙_}
 use mathlib.Core.Bool.{and-false}
-use mathlib.Core.List.{List}
+use mathlib.Core.List.{List, []}
 use native.Mathlib.Omega.{arith}
 use lib.ListN.{length}
+use lib.Dec.{leb}
 use borrow.Author.Tests.{le-leb, lt-leb}
 use Rattle.machine.specs.declared.Outcome.{Outcome}
-use Rattle.machine.specs.Bytes.{bit}
+use Rattle.machine.specs.Bytes.{bit, splice}
 use Rattle.machine.specs.Image.{sizeIn, stateIn, imageWith}
 use Rattle.machine.specs.Events as rule
 use Rattle.machine.specs.Tape.{eventIn}
 use Rattle.machine.specs.Run.{outcomeNumber, ledgerEntry}
 use Rattle.machine.specs.Refusals.{codes}
 use Rattle.machine.proofs.Bytes.{number-lt}
+use Rattle.machine.proofs.Ways.{choice}
 use Rattle.machine.proofs.Refusals.{fits-process, fits-code, fits-silent}
 use Rattle.machine.proofs.Tallies.{length-entry}
+use Rattle.span.proofs.Laws.{splice-none}
 use Rattle.event.specs.declared.Event.{Event}
 use Rattle.event.specs.Parsed.{eventOf, ruled}
 use Rattle.ledger.specs.Record.{enteredIn}
-use Rattle.ledger.proofs.Ways.{entered-none}
 use Rattle.place.specs.Performed.{Performable, startedAs}
-use Rattle.turns.proofs.Packed.{weight, numbered}
+use Rattle.turns.proofs.Packed.{weight, starts, numbered}
 use Rattle.turns.proofs.Going.{Going, stands, event-fits, going-on}
 
 -- ---- what an event adds, by its outcome's number
 
 module _ (word code : ℕ) (o : Outcome) {number : ℕ} (is : number ≡ outcomeNumber o) where
   pub word-idle : number ≡ 0 → word + 1 ≡ word + weight code o
-  word-idle idle = rw (sym is ∙ idle) (simp and-false (omega arith))
+  word-idle idle = rw (starts code o, sym is ∙ idle) (simp and-false (omega arith))
 
   pub word-more : {started : ℕ} → started ≡ startedAs code o
       → word + (started + 1 * 2 ^ (8 * number) % 18446744073709551616) ≡ word + weight code o
@@ -40,11 +42,14 @@ abbrev Entered : List ℕ → ℕ → List ℕ → List ℕ → ℕ → Type 0
 Entered l place entry l' place' = (l' ≡ enteredIn l place entry) × (place' ≡ place + length entry)
 
 module _ (l : List ℕ) (place k process : ℕ) (o : Outcome) {number : ℕ} (is : number ≡ outcomeNumber o) where
-  -- without a record
+  -- idle and moved have no record
   pub none-entered : number < 2 → Entered l place (ledgerEntry k process o) l place
+  unfolding ledgerEntry
   none-entered few =
-      let none = lt-leb 2 (outcomeNumber o) (omega arith) in
-      (entered-none k process o is l place few, omega (arith, length-entry k process o, ap bit none))
+      let none = lt-leb 2 (outcomeNumber o) (omega arith) in (
+        rw none (choice (λ m. l ≡ m) (leb (place + 0) (length l)) (splice l place []) l (splice-none l place) refl),
+        omega (arith, length-entry k process o, ap bit none),
+      )
 
   -- a record's place
   pub record-long : 2 ≤ number → place + 12 ≡ place + length (ledgerEntry k process o)
