@@ -1,6 +1,12 @@
 //! The lists of requests that cross the envelope on a link, each the shortest of its kind from the
 //! fresh ring with home 0: one for each kind, one for each way to begin, and the further kinds; then
-//! the lists after which such a request keeps the envelope going round.
+//! the lists after which such a request keeps the envelope going round, and those that lead to the
+//! fresh ring with another home. An exhaustive search on a model of its own found them, with what they
+//! end in.
+//!
+//! There are 40 lists. 33 are those of the 52 crossings, of which several have the same list, and each
+//! is a sample of the name `crossing-..`; 4 are samples of other names (`entry-10-..`, `mirror-..`);
+//! and the 3 to other homes are no sample, since ringrun prints no image.
 
 /// A status, as the header has it and as requests are numbered: full is bit 0 of two bits, empty
 /// bit 1.
@@ -16,7 +22,8 @@ pub const EMPTY: Status = Status { header: 0, bit: 1 };
 /// What is known of a crossing beside its kind.
 #[derive(Clone, Copy, PartialEq)]
 pub enum Way {
-    Any,
+    /// No list of its kind is shorter. It ends in this state: the envelope, then each process.
+    Shortest(&'static str),
     /// It begins as the envelope leaves against a waiting request.
     Leaves,
     /// It begins as the request is asked while the envelope is under way.
@@ -40,49 +47,97 @@ pub struct Crossing {
 }
 
 pub const CROSSINGS: [Crossing; 52] = [
-    Crossing { n: 2, request: FULL, envelope: EMPTY, way: Way::Any, list: "0.1 1.0 1.3 1.7 0.6 0.7 0.3 0.7 1.5 1.7" },
+    Crossing {
+        n: 2,
+        request: FULL,
+        envelope: EMPTY,
+        way: Way::Shortest(
+            "envelope empty marker-empty cnt [0, 0]; \
+            p0: stage 7 askedSelf-full link-full; \
+            p1: stage 2 arriving askedR-full askedSelf-full askedSelf-empty",
+        ),
+        list: "0.1 1.0 1.3 1.7 0.6 0.7 0.3 0.7 1.5 1.7",
+    },
     Crossing {
         n: 2,
         request: EMPTY,
         envelope: FULL,
-        way: Way::Any,
+        way: Way::Shortest(
+            "envelope full marker-full cnt [0, 0]; \
+            p0: stage 2 askedSelf-empty link-empty; \
+            p1: stage 7 arriving askedR-empty askedSelf-full askedSelf-empty",
+        ),
         list: "0.0 0.3 0.7 0.2 0.3 1.1 1.3 1.7 0.5 0.7 0.0 0.3 0.7 1.6 1.7",
     },
     Crossing {
         n: 2,
         request: FULL,
         envelope: FULL,
-        way: Way::Any,
+        way: Way::Shortest(
+            "envelope full cnt [1, 0]; \
+            p0: stage 7 arriving askedR-empty askedSelf-full askedSelf-empty marked-full; \
+            p1: stage 2 askedSelf-empty link-full link-empty",
+        ),
         list: "0.1 0.3 1.0 1.3 1.7 0.6 0.7 1.4 1.7 1.2 1.3 1.7 1.0 1.3 1.7 0.6 0.7",
     },
     Crossing {
         n: 2,
         request: EMPTY,
         envelope: EMPTY,
-        way: Way::Any,
+        way: Way::Shortest(
+            "envelope empty marker-empty cnt [0, 0]; \
+            p0: stage 2 arriving askedSelf-empty; \
+            p1: stage 0 link-empty",
+        ),
         list: "0.0 0.3 0.7 0.2 0.3 1.1 1.3 1.7 0.5 0.7 0.0 0.3 0.7 1.6 1.7 0.6 1.4 1.7 1.2 1.3 1.7 \
          0.4 0.7 0.2 0.3 1.1 1.3 1.7 0.5 0.7 0.0 0.3 0.7 1.4 1.7 1.2 1.3 1.7",
     },
-    Crossing { n: 3, request: FULL, envelope: EMPTY, way: Way::Any, list: "1.0 1.3 2.1 2.3 2.7 1.5 1.7 0.6 0.7" },
+    Crossing {
+        n: 3,
+        request: FULL,
+        envelope: EMPTY,
+        way: Way::Shortest(
+            "envelope empty marker-empty cnt [0, 0]; \
+            p0: stage 0 link-full; \
+            p1: stage 2 arriving askedR-full askedSelf-full askedSelf-empty; \
+            p2: stage 7 askedSelf-full",
+        ),
+        list: "1.0 1.3 2.1 2.3 2.7 1.5 1.7 0.6 0.7",
+    },
     Crossing {
         n: 3,
         request: EMPTY,
         envelope: FULL,
-        way: Way::Any,
+        way: Way::Shortest(
+            "envelope full marker-full cnt [0, 0]; \
+            p0: stage 0 link-empty; \
+            p1: stage 2 arriving askedR-full askedSelf-full askedSelf-empty; \
+            p2: stage 7 askedSelf-full",
+        ),
         list: "0.0 0.3 0.7 0.2 0.3 1.0 1.3 2.1 2.3 2.7 1.5 1.7 0.5 0.7",
     },
     Crossing {
         n: 3,
         request: FULL,
         envelope: FULL,
-        way: Way::Any,
+        way: Way::Shortest(
+            "envelope full cnt [1, 0]; \
+            p0: stage 7 marked-full; \
+            p1: stage 0 link-full; \
+            p2: stage 7 arriving askedSelf-full",
+        ),
         list: "0.1 0.3 1.0 1.3 1.7 0.6 0.7 1.4 1.7 1.2 1.3 1.7 2.1 2.3 2.7",
     },
     Crossing {
         n: 3,
         request: EMPTY,
         envelope: EMPTY,
-        way: Way::Any,
+        way: Way::Shortest(
+            "envelope empty cnt [0, 1]; \
+            p0: stage 0 arriving askedR-empty askedSelf-empty; \
+            p1: stage 2 marked-empty; \
+            p2: stage 0 link-empty",
+        ),
         list: "0.0 0.3 0.7 0.2 0.3 1.0 1.3 2.1 2.3 2.7 1.5 1.7 0.5 0.7 0.6 0.7 1.4 1.7 2.4 2.7 2.2 \
          2.3 2.7",
     },
@@ -395,32 +450,83 @@ pub const CROSSINGS: [Crossing; 52] = [
     },
 ];
 
+/// A list of events from the fresh ring with home 0, and the state at its end.
+pub struct Ended {
+    pub n: u64,
+    pub list: &'static str,
+    pub state: &'static str,
+}
+
 /// Entry 10 of document 01, for N: the full marker stays set with no receiver, a put has ended alone,
 /// and the full envelope goes round.
-pub const ENTRY_10: [(u64, &str); 2] = [
-    (
-        2,
-        "0.1 1.0 1.3 1.7 0.6 0.7 0.3 0.7 1.5 1.7 0.5 1.4 1.7 1.2 1.3 1.7 0.4 0.7 0.2 0.3 0.7 0.0 \
-         0.3 0.7 0.2 0.3 0.7",
-    ),
-    (
-        3,
-        "1.0 1.3 2.1 2.3 2.7 1.5 1.7 0.6 0.7 0.5 0.7 1.4 1.7 1.2 1.3 1.7 2.4 2.5 2.7 2.2 2.3 2.7 \
-         2.0 2.3 2.7 2.2 2.3 2.7",
-    ),
+pub const ENTRY_10: [Ended; 2] = [
+    Ended {
+        n: 2,
+        list: "0.1 1.0 1.3 1.7 0.6 0.7 0.3 0.7 1.5 1.7 0.5 1.4 1.7 1.2 1.3 1.7 0.4 0.7 0.2 0.3 0.7 0.0 \
+        0.3 0.7 0.2 0.3 0.7",
+        state: "envelope full marker-full cnt [0, 0]; \
+        p0: stage 0; \
+        p1: stage 0 arriving",
+    },
+    Ended {
+        n: 3,
+        list: "1.0 1.3 2.1 2.3 2.7 1.5 1.7 0.6 0.7 0.5 0.7 1.4 1.7 1.2 1.3 1.7 2.4 2.5 2.7 2.2 2.3 2.7 \
+        2.0 2.3 2.7 2.2 2.3 2.7",
+        state: "envelope full marker-full cnt [0, 0]; \
+        p0: stage 0 arriving askedR-full askedSelf-full; \
+        p1: stage 0; \
+        p2: stage 0",
+    },
 ];
 
 /// Its mirror image, for N: the empty marker stays set with no sender, everybody is idle, and the
 /// empty envelope goes round.
-pub const MIRROR: [(u64, &str); 2] = [
-    (
-        2,
-        "0.0 0.3 0.7 0.2 0.3 1.1 1.3 1.7 0.5 0.7 0.0 0.3 0.7 1.6 1.7 0.6 1.4 1.7 1.2 1.3 1.7 0.4 \
-         0.7 0.2 0.3 1.1 1.3 1.7 0.5 0.7 1.4 1.7 1.2 1.3 1.7",
-    ),
-    (
-        3,
-        "0.0 0.3 0.7 0.2 0.3 1.1 1.3 2.0 2.3 2.7 1.6 1.7 0.5 0.7 0.1 0.3 0.6 0.7 1.4 1.7 1.2 1.3 \
-         1.7 2.4 2.5 2.7 2.2 2.3 2.7 0.4 0.7 0.2 0.3 0.7",
-    ),
+pub const MIRROR: [Ended; 2] = [
+    Ended {
+        n: 2,
+        list: "0.0 0.3 0.7 0.2 0.3 1.1 1.3 1.7 0.5 0.7 0.0 0.3 0.7 1.6 1.7 0.6 1.4 1.7 1.2 1.3 1.7 0.4 \
+        0.7 0.2 0.3 1.1 1.3 1.7 0.5 0.7 1.4 1.7 1.2 1.3 1.7",
+        state: "envelope empty marker-empty cnt [0, 0]; \
+        p0: stage 0 arriving; \
+        p1: stage 0",
+    },
+    Ended {
+        n: 3,
+        list: "0.0 0.3 0.7 0.2 0.3 1.1 1.3 2.0 2.3 2.7 1.6 1.7 0.5 0.7 0.1 0.3 0.6 0.7 1.4 1.7 1.2 1.3 \
+        1.7 2.4 2.5 2.7 2.2 2.3 2.7 0.4 0.7 0.2 0.3 0.7",
+        state: "envelope empty marker-empty cnt [0, 0]; \
+        p0: stage 0; \
+        p1: stage 0 arriving; \
+        p2: stage 0 link-empty",
+    },
+];
+
+/// From home 0 to the fresh ring with another home.
+pub const OTHER_HOMES: [Ended; 3] = [
+    Ended {
+        n: 2,
+        list: "0.0 0.3 0.7 0.2 0.3 1.1 1.3 1.7 0.5 0.7 0.0 0.3 0.7 1.4 1.7 1.2 1.3 1.7 1.1 1.3 1.6 1.7 \
+        0.4 0.7 0.2 0.3 0.7 1.4 1.7 1.2 1.3 1.7",
+        state: "envelope empty cnt [0, 0]; \
+        p0: stage 0; \
+        p1: stage 0 have",
+    },
+    Ended {
+        n: 3,
+        list: "1.1 2.0 2.3 2.7 1.6 1.7 0.6 0.7 1.3 1.4 1.7 2.4 2.7 2.2 2.3 2.7 0.4 0.7 1.4 1.7 1.2 1.3 \
+        1.7",
+        state: "envelope empty cnt [0, 0]; \
+        p0: stage 0; \
+        p1: stage 0 have; \
+        p2: stage 0",
+    },
+    Ended {
+        n: 3,
+        list: "0.0 0.3 0.7 0.2 0.3 1.1 1.3 1.7 0.5 0.7 0.0 0.3 0.7 1.4 1.7 1.2 1.3 2.1 2.6 2.7 1.6 1.7 \
+        2.3 2.4 2.7 0.4 0.7 0.2 0.3 0.7 1.4 1.7 2.4 2.7 2.2 2.3 2.7",
+        state: "envelope empty cnt [0, 0]; \
+        p0: stage 0; \
+        p1: stage 0; \
+        p2: stage 0 have",
+    },
 ];

@@ -28,7 +28,8 @@ pub fn shared() -> Vec<Vec<&'static Crossing>> {
 
 /// Every line: first those by the way to begin, then the further kinds, then the shortest of each kind.
 fn lines() -> Vec<&'static Crossing> {
-    let (shortest, by_way): (Vec<_>, Vec<_>) = CROSSINGS.iter().partition(|line| line.way == Way::Any);
+    let is_shortest = |line: &&Crossing| matches!(line.way, Way::Shortest(_));
+    let (shortest, by_way): (Vec<_>, Vec<_>) = CROSSINGS.iter().partition(is_shortest);
     [by_way, shortest].concat()
 }
 
@@ -38,7 +39,7 @@ pub fn name(line: &Crossing) -> String {
     let [request, envelope] = [request, envelope].map(|status| if status == FULL { "full" } else { "empty" });
     let way = match line.way {
         Way::Both => return format!("crossing-n{n}-both-meet-{envelope}"),
-        Way::Any => "shortest",
+        Way::Shortest(_) => "shortest",
         Way::Leaves => "leaves",
         Way::Asks => "asks",
         Way::Old => "old",

@@ -19,8 +19,8 @@ pub fn samples() -> Vec<Sample> {
         Sample::new("entry-08-63-events", Play::fresh(2, 0).guided(63, 8).input()),
         Sample::new("entry-08-64-events", Play::fresh(2, 0).guided(64, 8).input()),
     ];
-    ENTRY_10.into_iter().for_each(|(n, list)| samples.extend(entry_10(n, list)));
-    MIRROR.into_iter().for_each(|(n, list)| samples.extend(mirror(n, list)));
+    ENTRY_10.iter().for_each(|known| samples.extend(entry_10(known.n, known.list)));
+    MIRROR.iter().for_each(|known| samples.extend(mirror(known.n, known.list)));
     samples
 }
 

@@ -1,15 +1,14 @@
-//! The plain implementation against document 01: its ten entries, the lists of crossings, the
-//! refusals' order, and ringrun's text.
+//! The plain implementation against document 01: its ten entries, the refusals' order, and ringrun's
+//! text.
 
 #[path = "../guide/mod.rs"]
 mod guide;
 #[path = "../plain/mod.rs"]
 mod plain;
 
+#[allow(dead_code)]
 #[path = "../samples/crossing_lists.rs"]
 mod crossing_lists;
-#[path = "plain/crossings.rs"]
-mod crossings;
 #[path = "plain/entries.rs"]
 mod entries;
 #[path = "plain/faults.rs"]

@@ -30,6 +30,8 @@ mod calls;
 mod case;
 #[path = "tapes/compare.rs"]
 mod compare;
+#[path = "tapes/known.rs"]
+mod known;
 #[cfg(has_tape_host)]
 #[path = "tapes/proved.rs"]
 mod proved;
@@ -41,6 +43,7 @@ mod work;
 #[cfg(has_tape_host)]
 mod tests {
     use crate::calls::Plain;
+    use crate::known::{answers_are_given, tapes_have_their_checks};
     use crate::plain::{FAULTS, MORE_FAULTS};
     use crate::proved::Proved;
     use crate::work::{missing, work, Find};
@@ -58,6 +61,16 @@ mod tests {
         let missing = missing(&tally);
         assert!(missing.is_empty(), "too little was exercised, seed {seed}\n{}", missing.join("\n"));
         println!("seed {seed}: {} calls, {} events written and read", tally.calls, tally.events);
+    }
+
+    #[test]
+    fn known_tapes_have_their_checks() {
+        tapes_have_their_checks::<Proved, Plain<0>>();
+    }
+
+    #[test]
+    fn known_answers_are_given() {
+        answers_are_given::<Proved, Plain<0>>();
     }
 
     /// A planted fault that these calls show, and what finds it.

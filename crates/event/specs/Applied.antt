@@ -37,7 +37,7 @@ pub record Applicable (v : Event) (header : Header) (own : Record) : Type 0 wher
   pub moves :
       isIdle (rule.react (v .code) (v .message) (shownEnvelope header) (shownProcess (own .word)) .outcome) ≡ false
 
--- r is the rule's reaction, N stays, and what it counts as started is its row's
+-- r is the rule's reaction, N stays, and so many count as started
 pub record Reacts (ruled : Ruled) (header : Header) (started : ℕ) (r : Reaction) : Type 0 where
   pub shows : shown r ≡ ruled
   pub fits : Fits r

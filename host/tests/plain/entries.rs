@@ -91,9 +91,8 @@ fn entry_9_needs_12_bytes_for_one_record() {
 
 #[test]
 fn entry_10_ends_a_put_alone() {
-    let (n, list) = ENTRY_10[0];
-    let list = events(&list.replace(' ', ","));
-    let (marked, _) = after(n, 0, &list[..21]);
+    let list = events(&ENTRY_10[0].list.replace(' ', ","));
+    let (marked, _) = after(2, 0, &list[..21]);
     assert_eq!((marked[2], stopped(&marked)), (1, true));
     assert!(marked.chunks_exact(8).skip(2).all(|record| record[0] < 6), "no receiver");
     let lines = printed(2, 0, &list);

@@ -10,6 +10,8 @@ pub struct Answer {
     pub number: u64,
     /// The list or the tape afterwards.
     pub input: Vec<u8>,
+    /// The output as it was lent.
+    pub lent: Vec<u8>,
     /// The output afterwards.
     pub output: Vec<u8>,
     /// The result slice afterwards.
@@ -42,6 +44,7 @@ fn perform<C: Calls>(case: &Case, input: &[u8]) -> Answer {
     let further = further(input, case.output + case.result);
     let mut input = Lent::copy(input, further);
     let mut output = Lent::pattern(case.output, further);
+    let lent = output.slice().to_vec();
     let mut result = Lent::pattern(case.result, further);
     let number = match case.call {
         Call::Fresh(home) => C::fresh(case.n, home, output.slice(), result.slice()),
@@ -51,7 +54,7 @@ fn perform<C: Calls>(case: &Case, input: &[u8]) -> Answer {
     let backs = [input, output, result].map(Lent::back);
     let around_kept = backs.iter().all(|back| back.around_kept);
     let [input, output, result] = backs.map(|back| back.bytes);
-    Answer { number, input, output, result, around_kept }
+    Answer { number, input, lent, output, result, around_kept }
 }
 
 /// What differs, a line each; nothing if the answers are the same and neither wrote where it may not.
