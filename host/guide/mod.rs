@@ -58,6 +58,16 @@ pub fn event(process: u64, code: u64, message: u32) -> [u8; 8] {
     bytes
 }
 
+/// The process and the code of each event of a list of `process.code`, parted by blanks or commas.
+pub fn read_list(list: &str) -> Vec<(u64, u64)> {
+    let read = |word: &str| {
+        let (process, code) = word.split_once('.').expect("an event is process.code");
+        let [process, code] = [process, code].map(|digits| digits.parse().expect("it is a number"));
+        (process, code)
+    };
+    list.split([' ', ',']).filter(|word| !word.is_empty()).map(read).collect()
+}
+
 /// The image of the fresh ring.
 pub fn fresh(n: u64, home: u64) -> Vec<u8> {
     let mut image = vec![0; 16 + 8 * n as usize];

@@ -22,7 +22,8 @@ pub const EMPTY: Status = Status { header: 0, bit: 1 };
 /// What is known of a crossing beside its kind.
 #[derive(Clone, Copy, PartialEq)]
 pub enum Way {
-    /// No list of its kind is shorter. It ends in this state: the envelope, then each process.
+    /// No list of its kind is shorter. It ends in this state, where all messages are 0: the envelope, then each
+    /// process of which something is set.
     Shortest(&'static str),
     /// It begins as the envelope leaves against a waiting request.
     Leaves,
@@ -52,9 +53,9 @@ pub const CROSSINGS: [Crossing; 52] = [
         request: FULL,
         envelope: EMPTY,
         way: Way::Shortest(
-            "envelope empty marker-empty cnt [0, 0]; \
-            p0: stage 7 askedSelf-full link-full; \
-            p1: stage 2 arriving askedR-full askedSelf-full askedSelf-empty",
+            "N 2, empty, markers 2, counts 0 0, message 0; \
+            0: stage 7, asked full, link full; \
+            1: stage 2, arriving, right asked full, asked full, asked empty",
         ),
         list: "0.1 1.0 1.3 1.7 0.6 0.7 0.3 0.7 1.5 1.7",
     },
@@ -63,9 +64,9 @@ pub const CROSSINGS: [Crossing; 52] = [
         request: EMPTY,
         envelope: FULL,
         way: Way::Shortest(
-            "envelope full marker-full cnt [0, 0]; \
-            p0: stage 2 askedSelf-empty link-empty; \
-            p1: stage 7 arriving askedR-empty askedSelf-full askedSelf-empty",
+            "N 2, full, markers 1, counts 0 0, message 0; \
+            0: stage 2, asked empty, link empty; \
+            1: stage 7, arriving, right asked empty, asked full, asked empty",
         ),
         list: "0.0 0.3 0.7 0.2 0.3 1.1 1.3 1.7 0.5 0.7 0.0 0.3 0.7 1.6 1.7",
     },
@@ -74,9 +75,9 @@ pub const CROSSINGS: [Crossing; 52] = [
         request: FULL,
         envelope: FULL,
         way: Way::Shortest(
-            "envelope full cnt [1, 0]; \
-            p0: stage 7 arriving askedR-empty askedSelf-full askedSelf-empty marked-full; \
-            p1: stage 2 askedSelf-empty link-full link-empty",
+            "N 2, full, markers 0, counts 1 0, message 0; \
+            0: stage 7, arriving, right asked empty, asked full, asked empty, marked full; \
+            1: stage 2, asked empty, link full, link empty",
         ),
         list: "0.1 0.3 1.0 1.3 1.7 0.6 0.7 1.4 1.7 1.2 1.3 1.7 1.0 1.3 1.7 0.6 0.7",
     },
@@ -85,9 +86,9 @@ pub const CROSSINGS: [Crossing; 52] = [
         request: EMPTY,
         envelope: EMPTY,
         way: Way::Shortest(
-            "envelope empty marker-empty cnt [0, 0]; \
-            p0: stage 2 arriving askedSelf-empty; \
-            p1: stage 0 link-empty",
+            "N 2, empty, markers 2, counts 0 0, message 0; \
+            0: stage 2, arriving, asked empty; \
+            1: stage 0, link empty",
         ),
         list: "0.0 0.3 0.7 0.2 0.3 1.1 1.3 1.7 0.5 0.7 0.0 0.3 0.7 1.6 1.7 0.6 1.4 1.7 1.2 1.3 1.7 \
          0.4 0.7 0.2 0.3 1.1 1.3 1.7 0.5 0.7 0.0 0.3 0.7 1.4 1.7 1.2 1.3 1.7",
@@ -97,10 +98,10 @@ pub const CROSSINGS: [Crossing; 52] = [
         request: FULL,
         envelope: EMPTY,
         way: Way::Shortest(
-            "envelope empty marker-empty cnt [0, 0]; \
-            p0: stage 0 link-full; \
-            p1: stage 2 arriving askedR-full askedSelf-full askedSelf-empty; \
-            p2: stage 7 askedSelf-full",
+            "N 3, empty, markers 2, counts 0 0, message 0; \
+            0: stage 0, link full; \
+            1: stage 2, arriving, right asked full, asked full, asked empty; \
+            2: stage 7, asked full",
         ),
         list: "1.0 1.3 2.1 2.3 2.7 1.5 1.7 0.6 0.7",
     },
@@ -109,10 +110,10 @@ pub const CROSSINGS: [Crossing; 52] = [
         request: EMPTY,
         envelope: FULL,
         way: Way::Shortest(
-            "envelope full marker-full cnt [0, 0]; \
-            p0: stage 0 link-empty; \
-            p1: stage 2 arriving askedR-full askedSelf-full askedSelf-empty; \
-            p2: stage 7 askedSelf-full",
+            "N 3, full, markers 1, counts 0 0, message 0; \
+            0: stage 0, link empty; \
+            1: stage 2, arriving, right asked full, asked full, asked empty; \
+            2: stage 7, asked full",
         ),
         list: "0.0 0.3 0.7 0.2 0.3 1.0 1.3 2.1 2.3 2.7 1.5 1.7 0.5 0.7",
     },
@@ -121,10 +122,10 @@ pub const CROSSINGS: [Crossing; 52] = [
         request: FULL,
         envelope: FULL,
         way: Way::Shortest(
-            "envelope full cnt [1, 0]; \
-            p0: stage 7 marked-full; \
-            p1: stage 0 link-full; \
-            p2: stage 7 arriving askedSelf-full",
+            "N 3, full, markers 0, counts 1 0, message 0; \
+            0: stage 7, marked full; \
+            1: stage 0, link full; \
+            2: stage 7, arriving, asked full",
         ),
         list: "0.1 0.3 1.0 1.3 1.7 0.6 0.7 1.4 1.7 1.2 1.3 1.7 2.1 2.3 2.7",
     },
@@ -133,10 +134,10 @@ pub const CROSSINGS: [Crossing; 52] = [
         request: EMPTY,
         envelope: EMPTY,
         way: Way::Shortest(
-            "envelope empty cnt [0, 1]; \
-            p0: stage 0 arriving askedR-empty askedSelf-empty; \
-            p1: stage 2 marked-empty; \
-            p2: stage 0 link-empty",
+            "N 3, empty, markers 0, counts 0 1, message 0; \
+            0: stage 0, arriving, right asked empty, asked empty; \
+            1: stage 2, marked empty; \
+            2: stage 0, link empty",
         ),
         list: "0.0 0.3 0.7 0.2 0.3 1.0 1.3 2.1 2.3 2.7 1.5 1.7 0.5 0.7 0.6 0.7 1.4 1.7 2.4 2.7 2.2 \
          2.3 2.7",
@@ -464,18 +465,15 @@ pub const ENTRY_10: [Ended; 2] = [
         n: 2,
         list: "0.1 1.0 1.3 1.7 0.6 0.7 0.3 0.7 1.5 1.7 0.5 1.4 1.7 1.2 1.3 1.7 0.4 0.7 0.2 0.3 0.7 0.0 \
         0.3 0.7 0.2 0.3 0.7",
-        state: "envelope full marker-full cnt [0, 0]; \
-        p0: stage 0; \
-        p1: stage 0 arriving",
+        state: "N 2, full, markers 1, counts 0 0, message 0; \
+        1: stage 0, arriving",
     },
     Ended {
         n: 3,
         list: "1.0 1.3 2.1 2.3 2.7 1.5 1.7 0.6 0.7 0.5 0.7 1.4 1.7 1.2 1.3 1.7 2.4 2.5 2.7 2.2 2.3 2.7 \
         2.0 2.3 2.7 2.2 2.3 2.7",
-        state: "envelope full marker-full cnt [0, 0]; \
-        p0: stage 0 arriving askedR-full askedSelf-full; \
-        p1: stage 0; \
-        p2: stage 0",
+        state: "N 3, full, markers 1, counts 0 0, message 0; \
+        0: stage 0, arriving, right asked full, asked full",
     },
 ];
 
@@ -486,18 +484,16 @@ pub const MIRROR: [Ended; 2] = [
         n: 2,
         list: "0.0 0.3 0.7 0.2 0.3 1.1 1.3 1.7 0.5 0.7 0.0 0.3 0.7 1.6 1.7 0.6 1.4 1.7 1.2 1.3 1.7 0.4 \
         0.7 0.2 0.3 1.1 1.3 1.7 0.5 0.7 1.4 1.7 1.2 1.3 1.7",
-        state: "envelope empty marker-empty cnt [0, 0]; \
-        p0: stage 0 arriving; \
-        p1: stage 0",
+        state: "N 2, empty, markers 2, counts 0 0, message 0; \
+        0: stage 0, arriving",
     },
     Ended {
         n: 3,
         list: "0.0 0.3 0.7 0.2 0.3 1.1 1.3 2.0 2.3 2.7 1.6 1.7 0.5 0.7 0.1 0.3 0.6 0.7 1.4 1.7 1.2 1.3 \
         1.7 2.4 2.5 2.7 2.2 2.3 2.7 0.4 0.7 0.2 0.3 0.7",
-        state: "envelope empty marker-empty cnt [0, 0]; \
-        p0: stage 0; \
-        p1: stage 0 arriving; \
-        p2: stage 0 link-empty",
+        state: "N 3, empty, markers 2, counts 0 0, message 0; \
+        1: stage 0, arriving; \
+        2: stage 0, link empty",
     },
 ];
 
@@ -507,26 +503,21 @@ pub const OTHER_HOMES: [Ended; 3] = [
         n: 2,
         list: "0.0 0.3 0.7 0.2 0.3 1.1 1.3 1.7 0.5 0.7 0.0 0.3 0.7 1.4 1.7 1.2 1.3 1.7 1.1 1.3 1.6 1.7 \
         0.4 0.7 0.2 0.3 0.7 1.4 1.7 1.2 1.3 1.7",
-        state: "envelope empty cnt [0, 0]; \
-        p0: stage 0; \
-        p1: stage 0 have",
+        state: "N 2, empty, markers 0, counts 0 0, message 0; \
+        1: stage 0, have",
     },
     Ended {
         n: 3,
         list: "1.1 2.0 2.3 2.7 1.6 1.7 0.6 0.7 1.3 1.4 1.7 2.4 2.7 2.2 2.3 2.7 0.4 0.7 1.4 1.7 1.2 1.3 \
         1.7",
-        state: "envelope empty cnt [0, 0]; \
-        p0: stage 0; \
-        p1: stage 0 have; \
-        p2: stage 0",
+        state: "N 3, empty, markers 0, counts 0 0, message 0; \
+        1: stage 0, have",
     },
     Ended {
         n: 3,
         list: "0.0 0.3 0.7 0.2 0.3 1.1 1.3 1.7 0.5 0.7 0.0 0.3 0.7 1.4 1.7 1.2 1.3 2.1 2.6 2.7 1.6 1.7 \
         2.3 2.4 2.7 0.4 0.7 0.2 0.3 0.7 1.4 1.7 2.4 2.7 2.2 2.3 2.7",
-        state: "envelope empty cnt [0, 0]; \
-        p0: stage 0; \
-        p1: stage 0; \
-        p2: stage 0 have",
+        state: "N 3, empty, markers 0, counts 0 0, message 0; \
+        2: stage 0, have",
     },
 ];

@@ -19,9 +19,7 @@ impl Play {
     /// The events of a list of `process.code` too, parted by blanks. The message of an event of code 0
     /// is its number, counted from 1 over all events.
     pub fn then(mut self, list: &str) -> Play {
-        for word in list.split_whitespace() {
-            let (process, code) = word.split_once('.').expect("an event is process.code");
-            let [process, code] = [process, code].map(|digits| digits.parse().expect("it is a number"));
+        for (process, code) in guide::read_list(list) {
             let message = if code == 0 { self.events.len() as u32 + 1 } else { 0 };
             self.perform(guide::event(process, code, message));
         }

@@ -1,64 +1,55 @@
 //! Every list of requests that cross the envelope, by the proved step and by the plain one: nowhere idle, and ending in
-//! the crossing and in the state that an exhaustive search found.
+//! the crossing and in the state that an exhaustive search found. All messages are 0: the search had none.
 
 #[path = "../guide/mod.rs"]
 mod guide;
 #[path = "../plain/mod.rs"]
 mod plain;
 
+#[allow(dead_code)]
+#[path = "differential/calls.rs"]
+mod calls;
 #[path = "../samples/crossing_lists.rs"]
 mod crossing_lists;
-#[path = "crossings/image.rs"]
-mod image;
-#[path = "crossings/state.rs"]
-mod state;
+#[path = "crossings/link.rs"]
+mod link;
+#[path = "differential/words.rs"]
+mod words;
 
+use calls::{plain as plain_calls, Calls, PROVED};
 use crossing_lists::{Crossing, Ended, Way, CROSSINGS, EMPTY, ENTRY_10, FULL, MIRROR, OTHER_HOMES};
-use image::{arriving, asked_itself, crosses, left, on_link, stage};
-use state::state;
+use link::{arriving, asked_itself, crosses, left, on_link, stage};
 use std::collections::BTreeSet;
-use vengloaz::raw;
+use words::in_words;
 
-/// The calls of a side: its name, step and stopped.
-struct Side {
-    name: &'static str,
-    step: fn(&mut [u8], &[u8], &mut [u8]) -> u64,
-    stopped: fn(&[u8], &mut [u8]) -> u64,
-}
+const SIDES: [Calls; 2] = [PROVED, plain_calls::<0>()];
 
-const SIDES: [Side; 2] = [
-    Side { name: "proved", step: raw::ring_step, stopped: raw::ring_stopped },
-    Side { name: "plain", step: plain::ring_step::<0>, stopped: plain::ring_stopped::<0> },
-];
-
-impl Side {
-    /// The image after some events from the fresh ring with home 0, none of them refused or idle.
-    fn after(&self, n: u64, events: &[[u8; 8]]) -> Vec<u8> {
-        let mut image = guide::fresh(n, 0);
-        for event in events {
-            let mut result = [0; 80];
-            assert_eq!((self.step)(&mut image, event, &mut result), 0, "{}: {events:?}", self.name);
-            assert_ne!(result[0], 0, "{}: an idle event: {events:?}", self.name);
-        }
-        image
-    }
-
-    /// Whether an image is stopped.
-    fn stopped(&self, image: &[u8]) -> bool {
+/// The image after some events from the fresh ring with home 0, none of them refused or idle.
+fn after(side: &Calls, n: u64, events: &[[u8; 8]]) -> Vec<u8> {
+    let mut image = guide::fresh(n, 0);
+    for event in events {
         let mut result = [0; 80];
-        assert_eq!((self.stopped)(image, &mut result), 0, "{}", self.name);
-        result[0] == 1
+        assert_eq!((side.step)(&mut image, event, &mut result), 0, "{}: {events:?}", side.name);
+        assert_ne!(result[0], 0, "{}: an idle event: {events:?}", side.name);
     }
+    image
 }
 
-/// The events of a list; the message of a put is its event's number, counted from 1.
+/// Whether an image is stopped.
+fn stopped(side: &Calls, image: &[u8]) -> bool {
+    let mut result = [0; 80];
+    assert_eq!((side.stopped)(image, &mut result), 0, "{}", side.name);
+    result[0] == 1
+}
+
+/// The events of a list, with messages of 0.
 fn events(list: &str) -> Vec<[u8; 8]> {
-    let event = |(k, word): (usize, &str)| {
-        let (process, code) = word.split_once('.').expect("an event is process.code");
-        let [process, code] = [process, code].map(|digits| digits.parse().expect("it is a number"));
-        guide::event(process, code, if code == 0 { k as u32 + 1 } else { 0 })
-    };
-    list.split(' ').enumerate().map(event).collect()
+    guide::read_list(list).into_iter().map(|(process, code)| guide::event(process, code, 0)).collect()
+}
+
+/// The state that an image holds.
+fn state(image: &[u8]) -> String {
+    in_words(image, usize::from(image[0])).join("; ")
 }
 
 /// Whether the crossing began or stands in the way named.
@@ -78,11 +69,11 @@ fn way_right(crossing: &Crossing, before: &[u8], image: &[u8], last: [u8; 8]) ->
     }
 }
 
-fn check(side: &Side, crossing: &Crossing) {
+fn check(side: &Calls, crossing: &Crossing) {
     let Crossing { n, request, envelope, list, .. } = *crossing;
     let events = events(list);
     let (last, earlier) = events.split_last().expect("a list has events");
-    let [before, image] = [side.after(n, earlier), side.after(n, &events)];
+    let [before, image] = [after(side, n, earlier), after(side, n, &events)];
     assert!(crosses(&image, request), "{}: {list}", side.name);
     assert_eq!(image[1], envelope.header, "{}: {list}", side.name);
     assert!(way_right(crossing, &before, &image, *last), "{}: {list}: {}", side.name, state(&image));
@@ -121,34 +112,29 @@ fn there_are_40_lists() {
 }
 
 /// The image at the end of a list, which must be in the state known.
-fn ended(side: &Side, known: &Ended) -> Vec<u8> {
-    let image = side.after(known.n, &events(known.list));
+fn ended(side: &Calls, known: &Ended) -> Vec<u8> {
+    let image = after(side, known.n, &events(known.list));
     assert_eq!(state(&image), known.state, "{}: {}", side.name, known.list);
     image
 }
 
-/// A put that ended alone: full, its marker on, nobody receives.
+/// Lists that end in their states, none of which is stopped.
+fn end_moving(lists: &[Ended]) {
+    for side in &SIDES {
+        lists.iter().for_each(|known| assert!(!stopped(side, &ended(side, known)), "{}: {}", side.name, known.list));
+    }
+}
+
+/// A put that ended alone: full, its marker on, nobody receives, and the ring does not stop.
 #[test]
 fn a_put_ends_alone() {
-    for side in &SIDES {
-        for known in &ENTRY_10 {
-            let image = ended(side, known);
-            assert!((0..known.n as usize).all(|process| stage(&image, process) == 0));
-            assert_eq!((image[1], image[2], side.stopped(&image)), (1, 1, false));
-        }
-    }
+    end_moving(&ENTRY_10);
 }
 
 /// The like with empty: the empty marker on with no sender, everybody idle, and the ring does not stop.
 #[test]
 fn an_empty_envelope_goes_round() {
-    for side in &SIDES {
-        for known in &MIRROR {
-            let image = ended(side, known);
-            assert!((0..known.n as usize).all(|process| stage(&image, process) == 0));
-            assert_eq!((image[1], image[2], side.stopped(&image)), (0, 2, false));
-        }
-    }
+    end_moving(&MIRROR);
 }
 
 /// The fresh ring with another home, byte for byte.
@@ -158,7 +144,7 @@ fn the_envelope_comes_to_rest_at_every_home() {
         for known in &OTHER_HOMES {
             let image = ended(side, known);
             let fresh = |home: &u64| guide::fresh(known.n, *home) == image;
-            assert!((1..known.n).filter(fresh).count() == 1 && side.stopped(&image), "{}", known.list);
+            assert!((1..known.n).filter(fresh).count() == 1 && stopped(side, &image), "{}", known.list);
         }
     }
 }

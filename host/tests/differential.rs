@@ -12,6 +12,10 @@ mod plain;
 #[path = "../samples/crossing_lists.rs"]
 mod crossing_lists;
 
+#[allow(dead_code)]
+#[path = "crossings/link.rs"]
+mod link;
+
 #[path = "differential/buffers.rs"]
 mod buffers;
 #[path = "differential/calls.rs"]
@@ -64,6 +68,8 @@ mod tape;
 mod unsound;
 #[path = "differential/watch.rs"]
 mod watch;
+#[path = "differential/words.rs"]
+mod words;
 
 use calls::PROVED;
 use pieces::work;

@@ -117,7 +117,7 @@ const HEARS_FULL: u64 = process::LINK + process::ASKED + process::NEWS;
 
 const HEARD_FULL: u64 = process::ASKED + process::NEWS;
 
-const HEARS_EMPTY: u64 = 2 * process::LINK + 2 * process::ASKED + process::NEWS;
+const HEARS_EMPTY: u64 = LINK_EMPTY + 2 * process::ASKED + process::NEWS;
 
 const HEARD_EMPTY: u64 = 2 * process::ASKED + process::NEWS;
 

@@ -14,6 +14,7 @@ use Rattle.machine.specs.Events as rule
 use Rattle.record.specs.declared.process.Record.{Record}
 use Rattle.record.specs.Words.{stageOf, flagsOf, haveOf, fullOf, shownProcess, shownEnvelope}
 use Rattle.record.proofs.Headers.{full-is}
+use Rattle.reaction.specs.declared.Reach.the-variants.{Right}
 use Rattle.reaction.specs.declared.Reaction.{Reaction}
 use Rattle.reaction.specs.Reaction.{Ruled, shown, leavesIn, Fits, Makes, pairFor, asking}
 use Rattle.reaction.proofs.Made.{turned, then, likewise, stays, restaged}
@@ -85,14 +86,13 @@ module _ (r : Reaction) (fits : Fits r) where
   unfolding rule.ends
   ends-made outcome word = likewise (restaged r fits 0 (omega arith) outcome word) refl
 
-  module _ {left : Bool} (read : left ≡ leavesIn (r .reach)) where
-    pub end-stayed : left ≡ false → Makes rule.endPut r r
-    unfolding rule.endPut
-    end-stayed is = stays fits (rw (sym read ∙ is))
+  pub end-stayed : leavesIn (r .reach) ≡ false → Makes rule.endPut r r
+  unfolding rule.endPut
+  end-stayed is = stays fits (rw is)
 
-    pub end-left : {t : Reaction} → left ≡ true → Makes (rule.ends Sent) r t → Makes rule.endPut r t
-    unfolding rule.endPut
-    end-left is made = likewise made (rw (sym read ∙ is))
+  pub end-left : {t : Reaction} → r .reach ≡ Right → Makes (rule.ends Sent) r t → Makes rule.endPut r t
+  unfolding rule.endPut
+  end-left is made = likewise made (rw is)
 
 -- ---- by the stage
 

@@ -3,8 +3,6 @@
 use machine::Outcome;
 use record::header::Header;
 use record::process::Record;
-ghost use mathlib.Core.Path.{_≡_};
-ghost use Rattle.reaction.specs.Reaction.{leavesIn};
 
 pub mod put; // put.rt: the put thread, code 7
 
@@ -14,19 +12,6 @@ pub enum Reach {
     Own,
     Left(u64),
     Right,
-}
-
-impl Reach {
-    // Whether the envelope leaves.
-    fn leaves(self) -> bool
-        ensures { λ r. ⌜ r ≡ leavesIn self ⌝ }
-    {
-        match self {
-            Reach::Own => false,
-            Reach::Left(_) => false,
-            Reach::Right => true,
-        }
-    }
 }
 
 // What an event does: to its own record and to the header, which neighbour it reaches, what it counts as started, and

@@ -144,11 +144,10 @@ fn end_put(r: Reaction) -> Reaction
     ensures { λ t. ⌜ Makes rule.endPut r t ⌝ }
 {
     let reach = r.reach;
-    if reach.leaves() {
-        ends(Outcome::Sent, r)
-    } else {
-        r
-    }
+    let Reach::Right = reach else {
+        return r;
+    };
+    ends(Outcome::Sent, r)
 }
 
 // Internal: the put step, by the stage that it finds, with the envelope or without it. Stages 3, 4, 8 and 9 do no more,

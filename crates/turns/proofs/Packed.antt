@@ -31,8 +31,8 @@ weight code o = startedAs code o + 2 ^ (8 * outcomeNumber o)
 
 -- a start counts in the byte of its kind, and of an idle event none does
 pub starts : (code : ℕ) (o : Outcome) → startedAs code o
-    ≡ 281474976710656 * bit (eqb code 0 && not (eqb (outcomeNumber o) 0))
-    + 72057594037927936 * bit (eqb code 1 && not (eqb (outcomeNumber o) 0))
+    ≡ 2 ^ 48 * bit (eqb code 0 && not (eqb (outcomeNumber o) 0))
+    + 2 ^ 56 * bit (eqb code 1 && not (eqb (outcomeNumber o) 0))
 starts code Idle = simp and-false
 starts code Moved = simp and-true
 starts code (Fill m) = simp and-true

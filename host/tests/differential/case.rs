@@ -2,9 +2,10 @@
 
 use std::fmt;
 
-use crate::image;
+use crate::image::size;
 use crate::show::{dotted, hex, listed};
 use crate::tape::Tape;
+use crate::words::in_words;
 
 /// A call, without the image and the result slice.
 #[derive(Clone, PartialEq, Debug)]
@@ -94,7 +95,9 @@ impl fmt::Display for Case {
         let (bytes, result) = (self.image.len(), self.result);
         writeln!(out, "{}, image {bytes} bytes, result {result} bytes", self.name())?;
         writeln!(out, "image:  {}", hex(&self.image))?;
-        write!(out, "{}", in_words(&self.image))?;
+        for line in size(&self.image).map_or(Vec::new(), |n| in_words(&self.image, n)) {
+            writeln!(out, "        {line}")?;
+        }
         match &self.call {
             Call::Step { event } => {
                 writeln!(out, "event:  {} = {}", hex(event), dotted(event))
@@ -107,60 +110,4 @@ impl fmt::Display for Case {
             Call::Stopped => Ok(()),
         }
     }
-}
-
-/// An image in words, where it has all its bytes.
-fn in_words(image: &[u8]) -> String {
-    let Some(n) = image::size(image) else {
-        return String::new();
-    };
-    let status = ["empty", "full"].get(usize::from(image[1])).unwrap_or(&"?");
-    let mut text = format!(
-        "        N {n}, {status}, markers {}, counts {} {}, message {}\n",
-        image[2],
-        image[3],
-        image[4],
-        number(&image[8..12]),
-    );
-    for process in 0..n {
-        let record = &image[image::at(process)..image::at(process + 1)];
-        if record.iter().any(|byte| *byte != 0) {
-            text += &format!("        {process}: {}\n", record_in_words(record));
-        }
-    }
-    text
-}
-
-/// A process record in words.
-fn record_in_words(record: &[u8]) -> String {
-    const FLAGS: [&str; 3] = ["have", "arriving", "news"];
-    const BITS: [&str; 8] = [
-        "right asked full",
-        "right asked empty",
-        "asked full",
-        "asked empty",
-        "marked full",
-        "marked empty",
-        "link full",
-        "link empty",
-    ];
-    let mut words = vec![format!("stage {}", record[0])];
-    words.extend(set_bits(record[1], &FLAGS));
-    words.extend(set_bits(record[2], &BITS));
-    if record[4..8] != [0; 4] {
-        words.push(format!("note {}", number(&record[4..8])));
-    }
-    words.join(", ")
-}
-
-/// The names of the bits that are set.
-fn set_bits(byte: u8, names: &[&str]) -> Vec<String> {
-    let named = names.iter().enumerate();
-    let set = named.filter(|(bit, _)| byte & (1 << bit) != 0);
-    set.map(|(_, name)| name.to_string()).collect()
-}
-
-/// Four bytes as a number.
-fn number(bytes: &[u8]) -> u32 {
-    u32::from_le_bytes([bytes[0], bytes[1], bytes[2], bytes[3]])
 }

@@ -2,7 +2,7 @@
 
 use crate::case::Case;
 use crate::crossing_lists::CROSSINGS;
-use crate::guide::Random;
+use crate::guide::{read_list, Random};
 use crate::image::fresh;
 use crate::runs::records;
 use crate::steps::{likely, steps};
@@ -34,13 +34,9 @@ pub fn lists(watch: &mut Watch, n: usize, random: &mut Random) -> Work<()> {
 
 /// The events of a list `process.code ..` from home 0, for another home.
 fn turned(list: &str, home: usize, n: usize, random: &mut Random) -> Vec<Event> {
-    let mut events = Vec::new();
-    for word in list.split_whitespace() {
-        let (process, code) = word.split_once('.').expect("an event is process.code");
-        let process: usize = process.parse().expect("a process is a number");
-        let code: u8 = code.parse().expect("a code is a number");
+    let turned = |(process, code): (u64, u64)| {
         let message = if code == 0 { random.words() } else { 0 };
-        events.push(event((process + home) % n, code, message));
-    }
-    events
+        event((process as usize + home) % n, code as u8, message)
+    };
+    read_list(list).into_iter().map(turned).collect()
 }

@@ -4,7 +4,9 @@ use std::collections::BTreeMap;
 
 use crate::case::{Call, Case};
 use crate::compare::Answer;
-use crate::image::{at, size, ARRIVING, HAVE, NEWS};
+use crate::crossing_lists::{EMPTY, FULL};
+use crate::image::{at, size, HAVE, NEWS};
+use crate::link::crosses;
 
 /// What was exercised.
 #[derive(Clone, Default)]
@@ -111,7 +113,7 @@ impl Tally {
         self.count_way(OUTCOMES[outcome as usize]);
         self.count_way(way(&case.image, event, outcome, &answer.image));
         if reached {
-            crossings(&case.image, n).into_iter().for_each(|crossing| self.count_way(crossing));
+            crossings(&case.image).into_iter().for_each(|crossing| self.count_way(crossing));
         }
     }
 
@@ -173,13 +175,9 @@ fn put_way(before: &[u8], full: bool, after: &[u8]) -> String {
     }
 }
 
-/// The crossings in an image: the envelope arrives at a process while its own request lies on the link to its left.
-fn crossings(image: &[u8], n: usize) -> Vec<&'static str> {
-    let Some(process) = (0..n).find(|process| image[at(*process) + 1] & ARRIVING != 0) else {
-        return Vec::new();
-    };
-    let requests = image[at((process + n - 1) % n) + 2] >> 6;
+/// The crossings in an image.
+fn crossings(image: &[u8]) -> Vec<&'static str> {
     let full = usize::from(image[1] & 1);
-    let kinds = [0, 1].into_iter().filter(|request| requests & (1 << request) != 0);
-    kinds.map(|request| CROSSINGS[2 * request + full]).collect()
+    let crossing = [FULL, EMPTY].into_iter().filter(|request| crosses(image, *request));
+    crossing.map(|request| CROSSINGS[2 * usize::from(request.bit) + full]).collect()
 }

@@ -9,9 +9,7 @@ const FIRST: &str = "1.0, 1.3, 1.7, 0.6, 0.7, 1.4, 1.7, 1.2, 1.3, 1.7, \
 
 #[test]
 fn entry_1_prints_its_lines() {
-    let lines = "7 1 fill 7\n14 1 sent 0\n17 0 take 7\n19 0 got 0\n\
-                 puts 1 gets 1 fills 1 takes 1 sent 1 got 1 idle 0\nstopped\n";
-    assert_eq!(printed(2, 0, &events(FIRST)), lines);
+    assert_eq!(printed(2, 0, &events(FIRST)), include_str!("../../../samples/entry-01.out"));
 }
 
 #[test]
@@ -91,7 +89,7 @@ fn entry_9_needs_12_bytes_for_one_record() {
 
 #[test]
 fn entry_10_ends_a_put_alone() {
-    let list = events(&ENTRY_10[0].list.replace(' ', ","));
+    let list = events(ENTRY_10[0].list);
     let (marked, _) = after(2, 0, &list[..21]);
     assert_eq!((marked[2], stopped(&marked)), (1, true));
     assert!(marked.chunks_exact(8).skip(2).all(|record| record[0] < 6), "no receiver");

@@ -34,15 +34,10 @@ pub fn refused(number: u64, place: u64) -> Answer {
     Answer { number, ..done(&[place]) }
 }
 
-/// The events of a list of `process.code`, parted by commas; a code 0 gets 7 as its message.
+/// The events of a list of `process.code`; a code 0 gets 7 as its message.
 pub fn events(list: &str) -> Vec<[u8; 8]> {
-    list.split(',').map(|item| single(item.trim())).collect()
-}
-
-fn single(item: &str) -> [u8; 8] {
-    let (process, code) = item.split_once('.').unwrap();
-    let code = code.parse().unwrap();
-    guide::event(process.parse().unwrap(), code, if code == 0 { 7 } else { 0 })
+    let event = |(process, code)| guide::event(process, code, if code == 0 { 7 } else { 0 });
+    guide::read_list(list).into_iter().map(event).collect()
 }
 
 /// The tape of some events.

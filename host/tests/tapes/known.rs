@@ -134,19 +134,18 @@ write 64 64 512 0 505:8 = refused 5 at 63";
 pub fn tapes_have_their_checks<A: Calls, B: Calls>() {
     for (n, events, checks) in CHECKS {
         let list = list(n, events);
-        let filled = |call: Call| -> Vec<u8> {
+        let output = |call: Call| -> Vec<u8> {
             let case = Case { n, call, output: 4 * BLOCK, result: 80 };
             let answer = both::<A, B>(&case);
             kept(&answer, "a tape of the checks");
             answer.output[..filled(&answer)].to_vec()
         };
-        let tape = filled(Call::Write(list.clone()));
-        let check = |block: &[u8; BLOCK]| u32::from_le_bytes([block[4], block[5], block[6], block[7]]);
-        let written: Vec<u32> = tape.as_chunks().0.iter().map(check).collect();
+        let tape = output(Call::Write(list.clone()));
+        let written: Vec<u32> = tape_of(&tape).blocks.iter().map(Block::check).collect();
         assert_eq!((written.as_slice(), tape.len()), (checks, BLOCK * checks.len()), "N {n}, {events} events");
-        let back = filled(Call::Read(tape_of(&tape)));
+        let back = output(Call::Read(tape_of(&tape)));
         assert!(back == list, "N {n}, {events} events: another list comes back");
-        assert!(filled(Call::Write(back)) == tape, "N {n}, {events} events: another tape comes back");
+        assert!(output(Call::Write(back)) == tape, "N {n}, {events} events: another tape comes back");
     }
 }
 
@@ -222,7 +221,7 @@ fn tape_of(bytes: &[u8]) -> Tape {
     let (blocks, tail) = bytes.as_chunks::<BLOCK>();
     let block = |bytes: &[u8; BLOCK]| {
         let mut block = Block::new(0, &[]);
-        bytes.iter().enumerate().for_each(|(at, byte)| *block.byte(at) = *byte);
+        (0..4).chain(8..BLOCK).for_each(|at| *block.byte(at) = bytes[at]);
         block.seal = Seal::Fixed(u32::from_le_bytes([bytes[4], bytes[5], bytes[6], bytes[7]]));
         block
     };

@@ -5,7 +5,7 @@ use crate::crossing_lists::Status;
 const ARRIVING: u8 = 1 << 1;
 
 /// Byte of the record of a process.
-pub fn byte(image: &[u8], process: usize, at: usize) -> u8 {
+fn byte(image: &[u8], process: usize, at: usize) -> u8 {
     image[16 + 8 * process + at]
 }
 
