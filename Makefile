@@ -28,7 +28,7 @@ test:
 	closing=$$(tail -n 1 "$$log"); \
 	echo "$$closing" | grep -Eq '^[1-9][0-9]* passed, 0 failed$$' || { echo "$$closing"; exit 1; }; \
 	rt staticlib ring_host; \
-	rt staticlib tape_host; \
+	rt staticlib ring_tools; \
 	(cd host && cargo test --release --offline --quiet -- --include-ignored); \
 	samples/check target/bin/ringrun; \
 	echo "$$closing"

@@ -1,8 +1,8 @@
 //! Finds the archives of the proved library and tells cargo to link them.
 //!
 //! They lie in `../target/staticlib`, or in the directory that the environment variable `RING_HOST_DIR` names.
-//! `libring_host.a` must be there. `libtape_host.a` may be: the tests in `tests/tapes.rs` need it, and without it the
-//! cfg `has_tape_host` stays unset and they are left out.
+//! `libring_host.a` must be there. `libring_tools.a` may be: the tests in `tests/tapes.rs` need it, and without it the
+//! cfg `has_ring_tools` stays unset and they are left out.
 
 use std::env;
 use std::path::{Path, PathBuf};
@@ -18,7 +18,7 @@ fn main() {
     }
     println!("cargo::rustc-link-search=native={}", directory.display());
     println!("cargo::rustc-link-lib=static=ring_host");
-    look_for_tape_host(&directory);
+    look_for_ring_tools(&directory);
 }
 
 /// Where the archives are.
@@ -32,13 +32,13 @@ fn directory() -> PathBuf {
     }
 }
 
-/// Sets `has_tape_host` where the second archive is there.
-fn look_for_tape_host(directory: &Path) {
-    let archive = directory.join("libtape_host.a");
-    println!("cargo::rustc-check-cfg=cfg(has_tape_host)");
+/// Sets `has_ring_tools` where the second archive is there.
+fn look_for_ring_tools(directory: &Path) {
+    let archive = directory.join("libring_tools.a");
+    println!("cargo::rustc-check-cfg=cfg(has_ring_tools)");
     println!("cargo::rerun-if-changed={}", archive.display());
     if archive.is_file() {
-        println!("cargo::rustc-cfg=has_tape_host");
+        println!("cargo::rustc-cfg=has_ring_tools");
     }
 }
 

@@ -71,14 +71,14 @@ pub fn read_list(list: &str) -> Vec<(u64, u64)> {
 /// The image of the fresh ring.
 pub fn fresh(n: u64, home: u64) -> Vec<u8> {
     let mut image = vec![0; 16 + 8 * n as usize];
-    assert_eq!(plain::tape_fresh::<0>(n, home, &mut image, &mut [0; 80]), 0);
+    assert_eq!(plain::ring_fresh::<0>(n, home, &mut image, &mut [0; 80]), 0);
     image
 }
 
 /// The tape of a list of events.
 pub fn tape(n: u64, list: &[u8]) -> Vec<u8> {
     let mut tape = vec![0; 512 * (list.len() / 8).div_ceil(63)];
-    assert_eq!(plain::tape_write::<0>(n, list, &mut tape, &mut [0; 80]), 0);
+    assert_eq!(plain::ring_write::<0>(n, list, &mut tape, &mut [0; 80]), 0);
     tape
 }
 

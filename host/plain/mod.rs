@@ -104,7 +104,7 @@ fn stopped<const FAULT: u8>(image: &[u8], result: usize) -> Result<[u64; 8], Ref
 }
 
 /// Fresh ring: all zero but N and have at the home process. The result gets zeros.
-pub fn tape_fresh<const FAULT: u8>(n: u64, home: u64, image: &mut [u8], result: &mut [u8]) -> u64 {
+pub fn ring_fresh<const FAULT: u8>(n: u64, home: u64, image: &mut [u8], result: &mut [u8]) -> u64 {
     let done = fresh(n, home, image, result.len());
     answer::<FAULT>(result, done)
 }
@@ -121,7 +121,7 @@ fn fresh(n: u64, home: u64, image: &mut [u8], result: usize) -> Result<[u64; 8],
 }
 
 /// Writer: turns a list of events for N into a tape. The result gets the bytes filled.
-pub fn tape_write<const FAULT: u8>(n: u64, list: &[u8], output: &mut [u8], result: &mut [u8]) -> u64 {
+pub fn ring_write<const FAULT: u8>(n: u64, list: &[u8], output: &mut [u8], result: &mut [u8]) -> u64 {
     let done = write::<FAULT>(n, list, output, result.len());
     answer::<FAULT>(result, done)
 }
@@ -135,7 +135,7 @@ fn write<const FAULT: u8>(n: u64, list: &[u8], output: &mut [u8], result: usize)
 }
 
 /// Reader: turns a tape into its list of events. The result gets the bytes filled.
-pub fn tape_read<const FAULT: u8>(n: u64, tape: &[u8], output: &mut [u8], result: &mut [u8]) -> u64 {
+pub fn ring_read<const FAULT: u8>(n: u64, tape: &[u8], output: &mut [u8], result: &mut [u8]) -> u64 {
     let done = read::<FAULT>(n, tape, output, result.len());
     answer::<FAULT>(result, done)
 }

@@ -1,9 +1,9 @@
 //! Fresh ring, writer and reader: the proved calls against the plain implementation, and tapes that read back as the
 //! events written and are written back as the same bytes.
 //!
-//! They are in a second archive, `libtape_host.a`. Where the build script doesn't find it, these tests are ignored.
+//! They are in a second archive, `libring_tools.a`. Where the build script doesn't find it, these tests are ignored.
 //! `RING_SEED` gives another seed than 1.
-#![cfg_attr(not(has_tape_host), allow(dead_code))]
+#![cfg_attr(not(has_ring_tools), allow(dead_code))]
 
 #[path = "../guide/mod.rs"]
 mod guide;
@@ -32,7 +32,7 @@ mod case;
 mod compare;
 #[path = "tapes/known.rs"]
 mod known;
-#[cfg(has_tape_host)]
+#[cfg(has_ring_tools)]
 #[path = "tapes/proved.rs"]
 mod proved;
 #[path = "tapes/shrink.rs"]
@@ -40,7 +40,7 @@ mod shrink;
 #[path = "tapes/work.rs"]
 mod work;
 
-#[cfg(has_tape_host)]
+#[cfg(has_ring_tools)]
 mod tests {
     use crate::calls::Plain;
     use crate::known::{answers_are_given, tapes_have_their_checks};
@@ -95,9 +95,9 @@ mod tests {
     }
 }
 
-#[cfg(not(has_tape_host))]
+#[cfg(not(has_ring_tools))]
 #[test]
-#[ignore = "there is no libtape_host.a: run `rt staticlib tape_host` in the repository's root"]
+#[ignore = "there is no libring_tools.a: run `rt staticlib ring_tools` in the repository's root"]
 fn fresh_ring_writer_and_reader() {
-    panic!("there is no libtape_host.a");
+    panic!("there is no libring_tools.a");
 }

@@ -55,7 +55,7 @@ fn entry_6_has_its_check() {
 #[test]
 fn entry_7_takes_64_and_not_65() {
     let mut buffer = vec![0; 1024];
-    let mut fresh = |n| answer(|result| plain::tape_fresh::<0>(n, 0, &mut buffer, result));
+    let mut fresh = |n| answer(|result| plain::ring_fresh::<0>(n, 0, &mut buffer, result));
     assert_eq!(fresh(64), done(&[]));
     assert_eq!(fresh(65), refused(1, 0));
 }
@@ -65,11 +65,11 @@ fn entry_8_makes_one_block_or_two() {
     let mut output = vec![0; 2048];
     for (count, bytes) in [(63, 512), (64, 1024)] {
         let list = guide::uniform(2, count, &mut guide::Random::new(8));
-        let written = answer(|result| plain::tape_write::<0>(2, &list, &mut output, result));
+        let written = answer(|result| plain::ring_write::<0>(2, &list, &mut output, result));
         assert_eq!(written, done(&[bytes]));
         let mut back = vec![0; 8 * count];
         let tape = &output[..bytes as usize];
-        let read = answer(|result| plain::tape_read::<0>(2, tape, &mut back, result));
+        let read = answer(|result| plain::ring_read::<0>(2, tape, &mut back, result));
         assert_eq!(read, done(&[8 * count as u64]));
         assert_eq!(back, list);
     }

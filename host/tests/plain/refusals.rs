@@ -31,15 +31,15 @@ fn run_from_fresh(tape: &[u8]) -> Answer {
 fn arguments_come_first() {
     let fresh = |n, home, length: usize| {
         let mut image = vec![0xA5; length];
-        let answer = answer(|result| plain::tape_fresh::<0>(n, home, &mut image, result));
+        let answer = answer(|result| plain::ring_fresh::<0>(n, home, &mut image, result));
         assert!(answer.number == 0 || image == vec![0xA5; length]);
         answer
     };
     for n in [0, 1, 65, 256 + 2, u64::MAX] {
         assert_eq!(fresh(n, u64::MAX, 0), refused(1, 0));
-        let write = answer(|result| plain::tape_write::<0>(n, &[], &mut [], result));
+        let write = answer(|result| plain::ring_write::<0>(n, &[], &mut [], result));
         assert_eq!(write, refused(1, 0));
-        let read = answer(|result| plain::tape_read::<0>(n, &[], &mut [], result));
+        let read = answer(|result| plain::ring_read::<0>(n, &[], &mut [], result));
         assert_eq!(read, refused(1, 0));
     }
     for home in [4, 5, 1 << 32, u64::MAX] {
@@ -156,7 +156,7 @@ fn a_single_event_is_refused_at_0() {
 
 #[test]
 fn a_list_is_refused_by_length_then_by_event() {
-    let write = |list: &[u8]| answer(|result| plain::tape_write::<0>(2, list, &mut [], result));
+    let write = |list: &[u8]| answer(|result| plain::ring_write::<0>(2, list, &mut [], result));
     for length in (0..64).filter(|length| length % 8 != 0 || *length == 0) {
         assert_eq!(write(&vec![255; length]), refused(6, 0));
     }
@@ -173,7 +173,7 @@ fn a_tape_is_refused_by_length() {
     for length in [0, 1, 511, 513, 1023, 512 * 65_537] {
         assert_eq!(run_from_fresh(&vec![255; length]), refused(6, 0));
         let tape = vec![255; length];
-        let read = answer(|result| plain::tape_read::<0>(2, &tape, &mut [], result));
+        let read = answer(|result| plain::ring_read::<0>(2, &tape, &mut [], result));
         assert_eq!(read, refused(6, 0));
     }
 }
@@ -252,9 +252,9 @@ fn a_short_result_stays_and_is_10_last() {
         assert_eq!(plain::ring_stopped::<0>(&image, &mut result), 10);
         assert_eq!(plain::ring_run::<0>(&mut image, &tape[1..], &mut [], &mut result), 6);
         assert_eq!(plain::ring_step::<0>(&mut image[..31], &event, &mut result), 3);
-        assert_eq!(plain::tape_write::<0>(2, &event, &mut [0; 512], &mut result), 10);
-        assert_eq!(plain::tape_read::<0>(2, &tape, &mut [0; 16], &mut result), 10);
-        assert_eq!(plain::tape_fresh::<0>(3, 2, &mut [0; 40], &mut result), 10);
+        assert_eq!(plain::ring_write::<0>(2, &event, &mut [0; 512], &mut result), 10);
+        assert_eq!(plain::ring_read::<0>(2, &tape, &mut [0; 16], &mut result), 10);
+        assert_eq!(plain::ring_fresh::<0>(3, 2, &mut [0; 40], &mut result), 10);
         assert_eq!((image, result), (guide::fresh(2, 0), vec![0xA5; length]));
     }
 }
@@ -272,6 +272,6 @@ fn further_bytes_are_kept() {
     assert_eq!(ledger[12..], [0xA5; 28]);
     assert_eq!((&result[64..80], &result[80..]), (&[0; 16][..], &[0xA5; 19][..]));
     let mut output = [0xA5; 600];
-    assert_eq!(plain::tape_write::<0>(2, list.as_flattened(), &mut output, &mut result), 0);
+    assert_eq!(plain::ring_write::<0>(2, list.as_flattened(), &mut output, &mut result), 0);
     assert_eq!((&output[40..512], &output[512..]), (&[0; 472][..], &[0xA5; 88][..]));
 }

@@ -21,14 +21,14 @@ impl<const FAULT: u8> Calls for Plain<FAULT> {
     const NAME: &'static str = "plain";
 
     fn fresh(n: u64, home: u64, image: &mut [u8], result: &mut [u8]) -> u64 {
-        plain::tape_fresh::<FAULT>(n, home, image, result)
+        plain::ring_fresh::<FAULT>(n, home, image, result)
     }
 
     fn write(n: u64, list: &[u8], output: &mut [u8], result: &mut [u8]) -> u64 {
-        plain::tape_write::<FAULT>(n, list, output, result)
+        plain::ring_write::<FAULT>(n, list, output, result)
     }
 
     fn read(n: u64, tape: &[u8], output: &mut [u8], result: &mut [u8]) -> u64 {
-        plain::tape_read::<FAULT>(n, tape, output, result)
+        plain::ring_read::<FAULT>(n, tape, output, result)
     }
 }

@@ -3,11 +3,11 @@
 
 use crate::calls::Calls;
 
-/// The functions as `libtape_host.a` exports them.
+/// The functions as `libring_tools.a` exports them.
 mod exported {
-    #[link(name = "tape_host", kind = "static")]
+    #[link(name = "ring_tools", kind = "static")]
     extern "C" {
-        pub fn tape_fresh(
+        pub fn ring_fresh(
             n: u64,
             home: u64,
             image: *mut u8,
@@ -16,7 +16,7 @@ mod exported {
             result_len: usize,
         ) -> u64;
 
-        pub fn tape_write(
+        pub fn ring_write(
             n: u64,
             list: *const u8,
             list_len: usize,
@@ -26,7 +26,7 @@ mod exported {
             result_len: usize,
         ) -> u64;
 
-        pub fn tape_read(
+        pub fn ring_read(
             n: u64,
             tape: *const u8,
             tape_len: usize,
@@ -46,13 +46,13 @@ impl Calls for Proved {
 
     fn fresh(n: u64, home: u64, image: &mut [u8], result: &mut [u8]) -> u64 {
         // SAFETY: see the module's comment.
-        unsafe { exported::tape_fresh(n, home, image.as_mut_ptr(), image.len(), result.as_mut_ptr(), result.len()) }
+        unsafe { exported::ring_fresh(n, home, image.as_mut_ptr(), image.len(), result.as_mut_ptr(), result.len()) }
     }
 
     fn write(n: u64, list: &[u8], output: &mut [u8], result: &mut [u8]) -> u64 {
         // SAFETY: see the module's comment.
         unsafe {
-            exported::tape_write(
+            exported::ring_write(
                 n,
                 list.as_ptr(),
                 list.len(),
@@ -67,7 +67,7 @@ impl Calls for Proved {
     fn read(n: u64, tape: &[u8], output: &mut [u8], result: &mut [u8]) -> u64 {
         // SAFETY: see the module's comment.
         unsafe {
-            exported::tape_read(
+            exported::ring_read(
                 n,
                 tape.as_ptr(),
                 tape.len(),

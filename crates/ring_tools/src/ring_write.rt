@@ -33,7 +33,7 @@ fn short_write(n: u64, list: &[u8]) -> Refusal
 
 // The writer call: how many bytes it filled is told. An answer is done or refused, so the inner else is never reached.
 #[no_mangle]
-pub extern "C" fn tape_write(n: u64, list: &[u8], output: &mut [u8], result: &mut [u8]) -> u64
+pub extern "C" fn ring_write(n: u64, list: &[u8], output: &mut [u8], result: &mut [u8]) -> u64
     ensures number { λ r. ⌜ r
         ≡ returned (writeAnswer n (now (list .entry)) (now (output .entry))) (now (result .entry)) ⌝ }
     ensures buffer { λ _. ⌜ now (output .exit)

@@ -5,8 +5,8 @@ use borrow.Author.Tests.{not-true, not-false}
 use Rattle.machine.specs.Answers.{freshVerdict}
 use Rattle.machine.proofs.Refusals.{SizeFits, size-fits, fresh-no-size, fresh-no-home, fresh-short, fresh-whole}
 use Rattle.result.proofs.Short.{refuses, passes}
-use Rattle.tape_host.proofs.tape_fresh.short_fresh.Statement.{statement}
-use Rattle.tape_host.proofs.tape_fresh.short_fresh.Tie as tie
+use Rattle.ring_tools.proofs.ring_fresh.short_fresh.Statement.{statement}
+use Rattle.ring_tools.proofs.ring_fresh.short_fresh.Tie as tie
 
 -- past the first test
 size : (c : tie.Else1) → SizeFits (c .before .before .before .args .n)

@@ -29,7 +29,7 @@ fn short_fresh(n: u64, home: u64, image: &[u8]) -> Refusal
 
 // The fresh ring call: there are no values to tell. An answer is done or refused, so the inner else is never reached.
 #[no_mangle]
-pub extern "C" fn tape_fresh(n: u64, home: u64, image: &mut [u8], result: &mut [u8]) -> u64
+pub extern "C" fn ring_fresh(n: u64, home: u64, image: &mut [u8], result: &mut [u8]) -> u64
     ensures number { λ r. ⌜ r ≡ returned (freshAnswer n home (now (image .entry))) (now (result .entry)) ⌝ }
     ensures buffer { λ _. ⌜ now (image .exit)
         ≡ lentWith (now (result .entry)) (now (image .entry)) (freshImage n home (now (image .entry))) ⌝ }

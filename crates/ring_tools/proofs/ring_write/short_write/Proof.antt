@@ -3,9 +3,9 @@ use mathlib.Core.Path.{sym, _∙_}
 use native.Mathlib.Omega.{arith}
 use borrow.Author.Tests.{not-true, not-false}
 use Rattle.machine.specs.Refusals.{codes, listVerdict}
-use Rattle.tape_host.proofs.Short.{size-refuses, input-refuses, input-passes}
-use Rattle.tape_host.proofs.tape_write.short_write.Statement.{statement}
-use Rattle.tape_host.proofs.tape_write.short_write.Tie as tie
+use Rattle.ring_tools.proofs.Short.{size-refuses, input-refuses, input-passes}
+use Rattle.ring_tools.proofs.ring_write.short_write.Statement.{statement}
+use Rattle.ring_tools.proofs.ring_write.short_write.Tie as tie
 
 fits-requires : tie.Need-fits-requires
 fits-requires c κs = tt

@@ -4,9 +4,9 @@ use borrow.Author.Tests.{not-true, not-false}
 use Rattle.machine.specs.Refusals.{codes, tapeVerdict}
 use Rattle.blocks.specs.Counted.{eventsOn}
 use Rattle.blocks.proofs.Apart.{refused-is, done-fine}
-use Rattle.tape_host.proofs.Short.{size-refuses, input-refuses, input-passes}
-use Rattle.tape_host.proofs.tape_read.short_read.Statement.{statement}
-use Rattle.tape_host.proofs.tape_read.short_read.Tie as tie
+use Rattle.ring_tools.proofs.Short.{size-refuses, input-refuses, input-passes}
+use Rattle.ring_tools.proofs.ring_read.short_read.Statement.{statement}
+use Rattle.ring_tools.proofs.ring_read.short_read.Tie as tie
 
 fits-requires : tie.Need-fits-requires
 fits-requires c κs = tt

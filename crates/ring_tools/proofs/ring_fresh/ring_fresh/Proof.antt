@@ -2,9 +2,9 @@
 use mathlib.Core.Path.{_∙_}
 use borrow.Author.Needs.{needs}
 use native.Mathlib.Omega.{arith}
-use Rattle.tape_host.proofs.Ways.{fresh-short, fresh-refused, fresh-done}
-use Rattle.tape_host.proofs.tape_fresh.tape_fresh.Statement.{statement}
-use Rattle.tape_host.proofs.tape_fresh.tape_fresh.Tie as tie
+use Rattle.ring_tools.proofs.Ways.{fresh-short, fresh-refused, fresh-done}
+use Rattle.ring_tools.proofs.ring_fresh.ring_fresh.Statement.{statement}
+use Rattle.ring_tools.proofs.ring_fresh.ring_fresh.Tie as tie
 
 short-fresh-requires : tie.Need-short-fresh-requires
 short-fresh-requires c κs = tt
@@ -78,8 +78,8 @@ returns-4 c =
     fresh-done (a .result .now) (omega arith) (a .image .now) (f .fresh .ensures .1) (f .fresh .ensures .0)
     (is .enum-told .given .1) (c .before .before .tell .ensures)
 
-pub tape-fresh-spec : {M : Type 1} → statement M
-tape-fresh-spec =
+pub ring-fresh-spec : {M : Type 1} → statement M
+ring-fresh-spec =
     tie.close
     (tie.spec
     short-fresh-requires

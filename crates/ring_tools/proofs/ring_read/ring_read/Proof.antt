@@ -1,12 +1,12 @@
--- With a short result slice the tests alone are made; else the writer's answer is told. Assumes nothing.
+-- With a short result slice the tests alone are made; else the reader's answer is told. Assumes nothing.
 use mathlib.Core.Path.{_∙_}
 use native.Mathlib.Omega.{arith}
-use Rattle.tape_host.proofs.Ways.{write-short, filled-refused, filled-done}
-use Rattle.tape_host.proofs.tape_write.tape_write.Statement.{statement}
-use Rattle.tape_host.proofs.tape_write.tape_write.Tie as tie
+use Rattle.ring_tools.proofs.Ways.{read-short, filled-refused, filled-done}
+use Rattle.ring_tools.proofs.ring_read.ring_read.Statement.{statement}
+use Rattle.ring_tools.proofs.ring_read.ring_read.Tie as tie
 
-short-write-requires : tie.Need-short-write-requires
-short-write-requires c κs = tt
+short-read-requires : tie.Need-short-read-requires
+short-read-requires c κs = tt
 
 number-of-requires : tie.Need-number-of-requires
 number-of-requires c κs = tt
@@ -14,11 +14,11 @@ number-of-requires c κs = tt
 returns : tie.Need-returns
 returns c =
     let a = c .before .before .before .before .before .before .args in
-    write-short (a .result .now) (omega arith) (a .n) (a .list .now) (a .output .now) (c .before .short-write .ensures)
+    read-short (a .result .now) (omega arith) (a .n) (a .tape .now) (a .output .now) (c .before .short-read .ensures)
     (c .number-of .ensures)
 
-write-requires : tie.Need-write-requires
-write-requires c κs = tt
+read-requires : tie.Need-read-requires
+read-requires c κs = tt
 
 enum-known-answer : tie.Need-enum-known-answer
 enum-known-answer c = omega arith
@@ -54,7 +54,7 @@ returns-3 c =
     let one = other .before .before .before in
     let f = one .before .before .before .before in
     let a = f .before .before .before .before .before .before .args in
-    filled-refused (a .result .now) (omega arith) (a .output .now) (f .write .ensures .1) (f .write .ensures .0) _
+    filled-refused (a .result .now) (omega arith) (a .output .now) (f .read .ensures .1) (f .read .ensures .0) _
     (one .answer2 .given .1 ∙ other .answer3 .given .1) (handed .refused .ensures .0) (handed .refused .ensures .1)
 
 tell-one-requires : tie.Need-tell-one-requires
@@ -71,17 +71,17 @@ returns-4 c =
     let is = c .before .before .before .before .before in
     let f = is .before .before .before .before in
     let a = f .before .before .before .before .before .before .args in
-    filled-done (a .result .now) (omega arith) (a .output .now) (f .write .ensures .1) (f .write .ensures .0) _
+    filled-done (a .result .now) (omega arith) (a .output .now) (f .read .ensures .1) (f .read .ensures .0) _
     (is .answer .given .1) (c .before .before .tell-one .ensures)
 
-pub tape-write-spec : {M : Type 1} → statement M
-tape-write-spec =
+pub ring-read-spec : {M : Type 1} → statement M
+ring-read-spec =
     tie.close
     (tie.spec
-    short-write-requires
+    short-read-requires
     number-of-requires
     returns
-    write-requires
+    read-requires
     enum-known-answer
     enum-known-answer-2
     enum-known-answer-3

@@ -32,7 +32,7 @@ fn short_read(n: u64, tape: &[u8]) -> Refusal
 
 // The reader call: how many bytes it filled is told. An answer is done or refused, so the inner else is never reached.
 #[no_mangle]
-pub extern "C" fn tape_read(n: u64, tape: &[u8], output: &mut [u8], result: &mut [u8]) -> u64
+pub extern "C" fn ring_read(n: u64, tape: &[u8], output: &mut [u8], result: &mut [u8]) -> u64
     ensures number { λ r. ⌜ r
         ≡ returned (readAnswer n (now (tape .entry)) (now (output .entry))) (now (result .entry)) ⌝ }
     ensures buffer { λ _. ⌜ now (output .exit)
