@@ -23,47 +23,8 @@ far : (c : tie.Joined1 Inv-loop μ-loop)
     → 256 * c .before .wide .result ≤ c .before .before .before .args .n + c .if1 .gap
 far c = ⊎-elim (λ w. omega arith) (λ w. omega arith) (c .if1 .came)
 
-wide-requires : tie.Need-wide-requires Inv-loop μ-loop
-wide-requires c κs = tt
-
-mul-limit : tie.Need-mul-limit Inv-loop μ-loop
-mul-limit c = omega arith
-
-sub-gap : tie.Need-sub-gap Inv-loop μ-loop
-sub-gap c = omega arith
-
 loop-holds : tie.Need-loop-holds Inv-loop μ-loop
 loop-holds c = (omega arith, λ i h. absurd (omega arith))
-
-mul-number-at : tie.Need-mul-number-at Inv-loop μ-loop
-mul-number-at c = omega arith
-
-add-number-at : tie.Need-add-number-at Inv-loop μ-loop
-add-number-at c = omega arith
-
-number-at-requires : tie.Need-number-at-requires Inv-loop μ-loop
-number-at-requires c κs = omega arith
-
-cast-front : tie.Need-cast-front Inv-loop μ-loop
-cast-front c = omega arith
-
-mul-number-at-2 : tie.Need-mul-number-at-2 Inv-loop μ-loop
-mul-number-at-2 c = omega arith
-
-add-number-at-2 : tie.Need-add-number-at-2 Inv-loop μ-loop
-add-number-at-2 c = omega arith
-
-add-number-at-3 : tie.Need-add-number-at-3 Inv-loop μ-loop
-add-number-at-3 c = omega arith
-
-number-at-requires-2 : tie.Need-number-at-requires-2 Inv-loop μ-loop
-number-at-requires-2 c κs = omega arith
-
-cast-message : tie.Need-cast-message Inv-loop μ-loop
-cast-message c = omega arith
-
-sub-coded : tie.Need-sub-coded Inv-loop μ-loop
-sub-coded c = omega arith
 
 add-any : tie.Need-add-any Inv-loop μ-loop
 add-any c = omega (arith, gap-small (c .before .before .before .before .before))
@@ -73,12 +34,6 @@ mul-mixed c =
     let front = c .before .before .number-at .result in
     let p = product-small (front - front % 256) (c .before .number-at2 .result) (omega arith) (omega arith) in
     omega arith
-
-add-k : tie.Need-add-k Inv-loop μ-loop
-add-k c = omega arith
-
-loop-less : tie.Need-loop-less Inv-loop μ-loop
-loop-less c = omega arith
 
 loop-again : tie.Need-loop-again Inv-loop μ-loop
 loop-again c =
@@ -108,27 +63,7 @@ returns-2 c = (omega arith, λ k h. absurd (omega arith))
 pub fitting-spec : {M : Type 1} → statement M
 fitting-spec =
     tie.close
-    (tie.spec
-    Inv-loop
-    μ-loop
-    wide-requires
-    mul-limit
-    sub-gap
-    loop-holds
-    mul-number-at
-    add-number-at
-    number-at-requires
-    cast-front
-    mul-number-at-2
-    add-number-at-2
-    add-number-at-3
-    number-at-requires-2
-    cast-message
-    sub-coded
-    add-any
-    mul-mixed
-    add-k
-    loop-less
-    loop-again
-    returns
-    returns-2)
+    (tie.spec Inv-loop μ-loop (λ c κs. tt) (λ c. omega arith) (λ c. omega arith) loop-holds (λ c. omega arith)
+    (λ c. omega arith) (λ c κs. omega arith) (λ c. omega arith) (λ c. omega arith) (λ c. omega arith)
+    (λ c. omega arith) (λ c κs. omega arith) (λ c. omega arith) (λ c. omega arith) add-any mul-mixed
+    (λ c. omega arith) (λ c. omega arith) loop-again returns returns-2)

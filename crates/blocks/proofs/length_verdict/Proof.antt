@@ -4,12 +4,6 @@ use Rattle.blocks.proofs.Ways.{length-fits, length-unfit}
 use Rattle.blocks.proofs.length_verdict.Statement.{statement}
 use Rattle.blocks.proofs.length_verdict.Tie as tie
 
-div-units : tie.Need-div-units
-div-units c = omega arith
-
-rem-if1 : tie.Need-rem-if1
-rem-if1 c = omega arith
-
 returns : tie.Need-returns
 returns c =
     let a = c .before .args in
@@ -21,4 +15,4 @@ returns-2 c =
     length-unfit (a .unit) (a .least) (a .most) (a .bytes .now) (c .if1 .left)
 
 pub length-verdict-spec : {M : Type 1} → statement M
-length-verdict-spec = tie.close (tie.spec div-units rem-if1 returns returns-2)
+length-verdict-spec = tie.close (tie.spec (λ c. omega arith) (λ c. omega arith) returns returns-2)

@@ -18,26 +18,11 @@ Inv-loop list n codes verdict events k₀ k =
 abbrev μ-loop : tie.MeasureT-loop
 μ-loop list n codes verdict events k₀ k = events - k
 
-mul-length-verdict : tie.Need-mul-length-verdict Inv-loop μ-loop
-mul-length-verdict c = omega arith
-
-length-verdict-requires : tie.Need-length-verdict-requires Inv-loop μ-loop
-length-verdict-requires c κs = omega arith
-
-enum-told : tie.Need-enum-told Inv-loop μ-loop
-enum-told c = omega arith
-
-enum-told-2 : tie.Need-enum-told-2 Inv-loop μ-loop
-enum-told-2 c = omega arith
-
 returns : tie.Need-returns Inv-loop μ-loop
 returns c =
     let a = c .before .before .before .before .args in
     list-length-refused (a .codes) (a .n) (a .list .now) (c .before .before .length-verdict .ensures)
     (c .enum-told2 .given .1)
-
-fitting-requires : tie.Need-fitting-requires Inv-loop μ-loop
-fitting-requires c κs = omega arith
 
 loop-holds : tie.Need-loop-holds Inv-loop μ-loop
 loop-holds c =
@@ -49,12 +34,6 @@ loop-holds c =
           (known .0) (known .1) (d .enum-told .given .1),
     )
 
-mul-fits : tie.Need-mul-fits Inv-loop μ-loop
-mul-fits c = omega arith
-
-fits-requires : tie.Need-fits-requires Inv-loop μ-loop
-fits-requires c κs = omega arith
-
 returns-2 : tie.Need-returns-2 Inv-loop μ-loop
 returns-2 c =
     let l = c .before .before .before .loop in
@@ -62,12 +41,6 @@ returns-2 c =
     let row = eventTest (a .codes) (a .n) (a .list .now) in
     let event = test-refused (refusal.Event (l .k)) (c .before .fits2 .ensures) (not-true _ (c .if1 .taken)) in
     sym (first-found row (l .k) _ (omega arith) event) ∙ l .inv .1
-
-add-k : tie.Need-add-k Inv-loop μ-loop
-add-k c = omega arith
-
-loop-less : tie.Need-loop-less Inv-loop μ-loop
-loop-less c = omega arith
 
 loop-again : tie.Need-loop-again Inv-loop μ-loop
 loop-again c =
@@ -87,20 +60,6 @@ returns-3 c =
 pub list-verdict-spec : {M : Type 1} → statement M
 list-verdict-spec =
     tie.close
-    (tie.spec
-    Inv-loop
-    μ-loop
-    mul-length-verdict
-    length-verdict-requires
-    enum-told
-    enum-told-2
-    returns
-    fitting-requires
-    loop-holds
-    mul-fits
-    fits-requires
-    returns-2
-    add-k
-    loop-less
-    loop-again
-    returns-3)
+    (tie.spec Inv-loop μ-loop (λ c. omega arith) (λ c κs. omega arith) (λ c. omega arith) (λ c. omega arith) returns
+    (λ c κs. omega arith) loop-holds (λ c. omega arith) (λ c κs. omega arith) returns-2 (λ c. omega arith)
+    (λ c. omega arith) loop-again returns-3)

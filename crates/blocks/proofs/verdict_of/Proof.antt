@@ -54,15 +54,6 @@ few c =
     let a = c .before .before .before .before .before .before .before .before .before .before .args in
     omega (arith, head-count (a .codes) (a .n) (tapeIn c) (blockIn c) (fine c), counts c)
 
-length-verdict-requires : tie.Need-length-verdict-requires Inv-loop μ-loop Inv-blocks2 μ-blocks2
-length-verdict-requires c κs = omega arith
-
-enum-told : tie.Need-enum-told Inv-loop μ-loop Inv-blocks2 μ-blocks2
-enum-told c = omega arith
-
-enum-told-2 : tie.Need-enum-told-2 Inv-loop μ-loop Inv-blocks2 μ-blocks2
-enum-told-2 c = omega arith
-
 returns : tie.Need-returns Inv-loop μ-loop Inv-blocks2 μ-blocks2
 returns c =
     let a = c .before .before .before .before .args in
@@ -74,27 +65,6 @@ blocks2-holds c =
     let a = c .before .before .before .before .args in
     let is = c .enum-told .given .1 in
     (omega arith, is, blocks-start (a .codes) (a .n) (a .tape .now) (c .before .before .length-verdict .ensures) is)
-
-head-requires : tie.Need-head-requires Inv-loop μ-loop Inv-blocks2 μ-blocks2
-head-requires c κs = omega arith
-
-enum-known-counted : tie.Need-enum-known-counted Inv-loop μ-loop Inv-blocks2 μ-blocks2
-enum-known-counted c = omega arith
-
-enum-known-counted-2 : tie.Need-enum-known-counted-2 Inv-loop μ-loop Inv-blocks2 μ-blocks2
-enum-known-counted-2 c = omega arith
-
-enum-known-counted-3 : tie.Need-enum-known-counted-3 Inv-loop μ-loop Inv-blocks2 μ-blocks2
-enum-known-counted-3 c = omega arith
-
-enum-told-3 : tie.Need-enum-told-3 Inv-loop μ-loop Inv-blocks2 μ-blocks2
-enum-told-3 c = omega arith
-
-mul-slots : tie.Need-mul-slots Inv-loop μ-loop Inv-blocks2 μ-blocks2
-mul-slots c = omega arith
-
-add-slots : tie.Need-add-slots Inv-loop μ-loop Inv-blocks2 μ-blocks2
-add-slots c = omega arith
 
 fitting-requires : tie.Need-fitting-requires Inv-loop μ-loop Inv-blocks2 μ-blocks2
 fitting-requires c κs = omega (arith, few c)
@@ -122,12 +92,6 @@ mul-t19 c = omega (arith, few (c .before .before .before .before .before))
 add-t20 : tie.Need-add-t20 Inv-loop μ-loop Inv-blocks2 μ-blocks2
 add-t20 c = omega (arith, few (c .before .before .before .before .before))
 
-add-j : tie.Need-add-j Inv-loop μ-loop Inv-blocks2 μ-blocks2
-add-j c = omega arith
-
-loop-less : tie.Need-loop-less Inv-loop μ-loop Inv-blocks2 μ-blocks2
-loop-less c = omega arith
-
 loop-again : tie.Need-loop-again Inv-loop μ-loop Inv-blocks2 μ-blocks2
 loop-again c =
     let k = c .before .before .before .before .before in
@@ -154,12 +118,6 @@ mul-is-clear-2 c = omega (arith, few (c .before .before .before))
 is-clear-requires : tie.Need-is-clear-requires Inv-loop μ-loop Inv-blocks2 μ-blocks2
 is-clear-requires c κs = omega (arith, few (c .before .before .before))
 
-add-b : tie.Need-add-b Inv-loop μ-loop Inv-blocks2 μ-blocks2
-add-b c = omega arith
-
-blocks2-less : tie.Need-blocks2-less Inv-loop μ-loop Inv-blocks2 μ-blocks2
-blocks2-less c = omega arith
-
 blocks2-again : tie.Need-blocks2-again Inv-loop μ-loop Inv-blocks2 μ-blocks2
 blocks2-again c =
     let k = c .before .before .before .before .before in
@@ -181,9 +139,6 @@ returns-2 c =
     let a = c .before .before .before .before .before .before .args in
     let o = c .before .blocks2 in
     o .inv .1 ∙ sym (first-end (blockVerdict (a .codes) (a .n) (a .tape .now)) (o .b) _ (omega arith)) ∙ o .inv .2
-
-returns-3 : tie.Need-returns-3 Inv-loop μ-loop Inv-blocks2 μ-blocks2
-returns-3 c = absurd (omega arith)
 
 returns-4 : tie.Need-returns-4 Inv-loop μ-loop Inv-blocks2 μ-blocks2
 returns-4 c =
@@ -227,43 +182,9 @@ returns-6 c =
 pub verdict-of-spec : {M : Type 1} → statement M
 verdict-of-spec =
     tie.close
-    (tie.spec
-    Inv-loop
-    μ-loop
-    Inv-blocks2
-    μ-blocks2
-    length-verdict-requires
-    enum-told
-    enum-told-2
-    returns
-    blocks2-holds
-    head-requires
-    enum-known-counted
-    enum-known-counted-2
-    enum-known-counted-3
-    enum-told-3
-    mul-slots
-    add-slots
-    fitting-requires
-    loop-holds
-    mul-fits
-    add-fits
-    fits-requires
-    mul-t19
-    add-t20
-    add-j
-    loop-less
-    loop-again
-    mul-is-clear
-    add-is-clear
-    sub-is-clear
-    mul-is-clear-2
-    is-clear-requires
-    add-b
-    blocks2-less
-    blocks2-again
-    returns-2
-    returns-3
-    returns-4
-    returns-5
-    returns-6)
+    (tie.spec Inv-loop μ-loop Inv-blocks2 μ-blocks2 (λ c κs. omega arith) (λ c. omega arith) (λ c. omega arith)
+    returns blocks2-holds (λ c κs. omega arith) (λ c. omega arith) (λ c. omega arith) (λ c. omega arith)
+    (λ c. omega arith) (λ c. omega arith) (λ c. omega arith) fitting-requires loop-holds mul-fits add-fits
+    fits-requires mul-t19 add-t20 (λ c. omega arith) (λ c. omega arith) loop-again mul-is-clear add-is-clear
+    sub-is-clear mul-is-clear-2 is-clear-requires (λ c. omega arith) (λ c. omega arith) blocks2-again returns-2
+    (λ c. absurd (omega arith)) returns-4 returns-5 returns-6)

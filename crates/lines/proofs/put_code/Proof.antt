@@ -15,59 +15,17 @@ use Rattle.lines.proofs.put_code.Tie as tie
 abbrev spaced : ℕ → List ℕ
 spaced code = codeWord code ++ (space ∷ [])
 
-slice-aggregate-text-field : tie.Need-slice-aggregate-text-field
-slice-aggregate-text-field c = omega arith
-
-text-field-requires : tie.Need-text-field-requires
-text-field-requires c κs = omega arith
-
-slice-aggregate-text-field-2 : tie.Need-slice-aggregate-text-field-2
-slice-aggregate-text-field-2 c = omega arith
-
-text-field-requires-2 : tie.Need-text-field-requires-2
-text-field-requires-2 c κs = omega arith
-
-slice-aggregate-text-field-3 : tie.Need-slice-aggregate-text-field-3
-slice-aggregate-text-field-3 c = omega arith
-
-text-field-requires-3 : tie.Need-text-field-requires-3
-text-field-requires-3 c κs = omega arith
-
-slice-aggregate-text-field-4 : tie.Need-slice-aggregate-text-field-4
-slice-aggregate-text-field-4 c = omega arith
-
-text-field-requires-4 : tie.Need-text-field-requires-4
-text-field-requires-4 c κs = omega arith
-
-slice-write-page : tie.Need-slice-write-page
-slice-write-page c = omega arith
-
-add-result : tie.Need-add-result
-add-result c = omega arith
-
-same-length : tie.Need-same-length
-same-length c = omega arith
-
 returns : tie.Need-returns
 unfolding text
 returns c = (piece-is (ap spaced (sym (c .before .before .before .before .before .match .keys1))) (c .before .before .text-field .ensures .0), omega arith)
-
-same-length-2 : tie.Need-same-length-2
-same-length-2 c = omega arith
 
 returns-2 : tie.Need-returns-2
 unfolding text
 returns-2 c = (piece-is (ap spaced (sym (c .before .before .before .before .before .match .keys2))) (c .before .before .text-field2 .ensures .0), omega arith)
 
-same-length-3 : tie.Need-same-length-3
-same-length-3 c = omega arith
-
 returns-3 : tie.Need-returns-3
 unfolding text
 returns-3 c = (piece-is (ap spaced (sym (c .before .before .before .before .before .match .keys3))) (c .before .before .text-field3 .ensures .0), omega arith)
-
-same-length-4 : tie.Need-same-length-4
-same-length-4 c = omega arith
 
 returns-4 : tie.Need-returns-4
 unfolding text
@@ -88,24 +46,7 @@ returns-5 c =
 pub put-code-spec : {M : Type 1} → statement M
 put-code-spec =
     tie.close
-    (tie.spec
-    slice-aggregate-text-field
-    text-field-requires
-    slice-aggregate-text-field-2
-    text-field-requires-2
-    slice-aggregate-text-field-3
-    text-field-requires-3
-    slice-aggregate-text-field-4
-    text-field-requires-4
-    slice-write-page
-    add-result
-    same-length
-    returns
-    same-length-2
-    returns-2
-    same-length-3
-    returns-3
-    same-length-4
-    returns-4
-    same-length-5
-    returns-5)
+    (tie.spec (λ c. omega arith) (λ c κs. omega arith) (λ c. omega arith) (λ c κs. omega arith) (λ c. omega arith)
+    (λ c κs. omega arith) (λ c. omega arith) (λ c κs. omega arith) (λ c. omega arith) (λ c. omega arith)
+    (λ c. omega arith) returns (λ c. omega arith) returns-2 (λ c. omega arith) returns-3 (λ c. omega arith) returns-4
+    same-length-5 returns-5)

@@ -5,14 +5,8 @@ use Rattle.text.proofs.Laws.{piece-then}
 use Rattle.lines.proofs.put_count.Statement.{statement}
 use Rattle.lines.proofs.put_count.Tie as tie
 
-text-field-requires : tie.Need-text-field-requires
-text-field-requires c κs = omega arith
-
 decimal-field-requires : tie.Need-decimal-field-requires
 decimal-field-requires c κs = omega (arith, decimal-64 (c .before .before .before .before .before .before .before .args .count) (omega arith))
-
-same-length : tie.Need-same-length
-same-length c = omega arith
 
 returns : tie.Need-returns
 returns c = (
@@ -22,4 +16,4 @@ returns c = (
 
 pub put-count-spec : {M : Type 1} → statement M
 put-count-spec =
-    tie.close (tie.spec text-field-requires decimal-field-requires same-length returns)
+    tie.close (tie.spec (λ c κs. omega arith) decimal-field-requires (λ c. omega arith) returns)

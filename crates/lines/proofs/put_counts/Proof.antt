@@ -6,45 +6,6 @@ use Rattle.lines.proofs.Lines.{counts-lined}
 use Rattle.lines.proofs.put_counts.Statement.{statement}
 use Rattle.lines.proofs.put_counts.Tie as tie
 
-slice-aggregate-put-count : tie.Need-slice-aggregate-put-count
-slice-aggregate-put-count c = omega arith
-
-put-count-requires : tie.Need-put-count-requires
-put-count-requires c κs = omega arith
-
-slice-aggregate-put-count-2 : tie.Need-slice-aggregate-put-count-2
-slice-aggregate-put-count-2 c = omega arith
-
-put-count-requires-2 : tie.Need-put-count-requires-2
-put-count-requires-2 c κs = omega arith
-
-slice-aggregate-put-count-3 : tie.Need-slice-aggregate-put-count-3
-slice-aggregate-put-count-3 c = omega arith
-
-put-count-requires-3 : tie.Need-put-count-requires-3
-put-count-requires-3 c κs = omega arith
-
-slice-aggregate-put-count-4 : tie.Need-slice-aggregate-put-count-4
-slice-aggregate-put-count-4 c = omega arith
-
-put-count-requires-4 : tie.Need-put-count-requires-4
-put-count-requires-4 c κs = omega arith
-
-slice-aggregate-put-count-5 : tie.Need-slice-aggregate-put-count-5
-slice-aggregate-put-count-5 c = omega arith
-
-put-count-requires-5 : tie.Need-put-count-requires-5
-put-count-requires-5 c κs = omega arith
-
-slice-aggregate-put-count-6 : tie.Need-slice-aggregate-put-count-6
-slice-aggregate-put-count-6 c = omega arith
-
-put-count-requires-6 : tie.Need-put-count-requires-6
-put-count-requires-6 c κs = omega arith
-
-slice-aggregate-put-count-7 : tie.Need-slice-aggregate-put-count-7
-slice-aggregate-put-count-7 c = omega arith
-
 put-count-requires-7 : tie.Need-put-count-requires-7
 put-count-requires-7 c κs =
     let g6 = c .before .before .before .before in
@@ -110,20 +71,6 @@ returns c =
 pub put-counts-spec : {M : Type 1} → statement M
 put-counts-spec =
     tie.close
-    (tie.spec
-    slice-aggregate-put-count
-    put-count-requires
-    slice-aggregate-put-count-2
-    put-count-requires-2
-    slice-aggregate-put-count-3
-    put-count-requires-3
-    slice-aggregate-put-count-4
-    put-count-requires-4
-    slice-aggregate-put-count-5
-    put-count-requires-5
-    slice-aggregate-put-count-6
-    put-count-requires-6
-    slice-aggregate-put-count-7
-    put-count-requires-7
-    same-length
-    returns)
+    (tie.spec (λ c. omega arith) (λ c κs. omega arith) (λ c. omega arith) (λ c κs. omega arith) (λ c. omega arith)
+    (λ c κs. omega arith) (λ c. omega arith) (λ c κs. omega arith) (λ c. omega arith) (λ c κs. omega arith)
+    (λ c. omega arith) (λ c κs. omega arith) (λ c. omega arith) put-count-requires-7 same-length returns)

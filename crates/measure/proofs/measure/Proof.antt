@@ -15,17 +15,11 @@ shared-slice-read-wide c =
     let start = c .before .before .before in
     omega (arith, image-fine (start .args .image .now) (start .pre .image-fine) .header)
 
-wide-requires : tie.Need-wide-requires
-wide-requires c κs = tt
-
 mul-length : tie.Need-mul-length
 mul-length c = omega (arith, c .wide .ensures .1)
 
 add-length : tie.Need-add-length
 add-length c = omega (arith, c .wide .ensures .1)
-
-slice-aggregate-copy : tie.Need-slice-aggregate-copy
-slice-aggregate-copy c = omega arith
 
 copy-requires : tie.Need-copy-requires
 copy-requires c κs =
@@ -34,12 +28,6 @@ copy-requires c κs =
       omega (arith, c .before .wide .ensures .0, image .room),
       omega (arith, c .before .wide .ensures .0, image .size .most),
     )
-
-slice-aggregate-play : tie.Need-slice-aggregate-play
-slice-aggregate-play c = omega arith
-
-slice-aggregate-play-2 : tie.Need-slice-aggregate-play-2
-slice-aggregate-play-2 c = omega arith
 
 play-requires : tie.Need-play-requires
 play-requires c κs =
@@ -69,14 +57,5 @@ returns c =
 pub measure-spec : {M : Type 1} → statement M
 measure-spec =
     tie.close
-    (tie.spec
-    shared-slice-read-wide
-    wide-requires
-    mul-length
-    add-length
-    slice-aggregate-copy
-    copy-requires
-    slice-aggregate-play
-    slice-aggregate-play-2
-    play-requires
-    returns)
+    (tie.spec shared-slice-read-wide (λ c κs. tt) mul-length add-length (λ c. omega arith) copy-requires
+    (λ c. omega arith) (λ c. omega arith) play-requires returns)

@@ -3,20 +3,6 @@ use borrow.Author.Needs.{needs}
 use Rattle.place.proofs.arrive.Statement.{statement}
 use Rattle.place.proofs.arrive.Tie as tie
 
-at-requires : tie.Need-at-requires
-at-requires c κs = search needs
-
-arrived-requires : tie.Need-arrived-requires
-arrived-requires c κs = search needs
-
-put-requires : tie.Need-put-requires
-put-requires c κs = search needs
-
-same-length : tie.Need-same-length
-same-length c = search needs
-
-returns : tie.Need-returns
-returns c = cc
-
 pub arrive-spec : {M : Type 1} → statement M
-arrive-spec = tie.close (tie.spec at-requires arrived-requires put-requires same-length returns)
+arrive-spec = tie.close (tie.spec (λ c κs. search needs) (λ c κs. search needs) (λ c κs. search needs)
+    (λ c. search needs) (λ c. cc))

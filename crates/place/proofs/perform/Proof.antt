@@ -13,9 +13,6 @@ is-possible-requires c κs =
     let known = c .before .before in
     may-test (λ k. known .slice-known .given k .fits) (known .before .pre) (c .at .ensures)
 
-same-length : tie.Need-same-length
-same-length c = search needs
-
 returns : tie.Need-returns
 returns c =
     let tested = c .before in
@@ -33,9 +30,6 @@ apply-requires c κs =
     may-apply (λ k. known .slice-known .given k .fits) (known .before .pre) (tested .before .at .ensures)
     (tested .is-possible .ensures) (c .before .before .if1 .left) (c .of .ensures)
 
-size-requires : tie.Need-size-requires
-size-requires c κs = search needs
-
 place-requires : tie.Need-place-requires
 place-requires c κs =
     let applied = c .before .before in
@@ -45,9 +39,6 @@ place-requires c κs =
     may-place (λ k. known .slice-known .given k .fits) (known .before .pre) (tested .before .at .ensures)
     (tested .is-possible .ensures) (left .if1 .left) (applied .before .of .ensures) (applied .apply .ensures)
     (c .before .size .ensures)
-
-same-length-2 : tie.Need-same-length-2
-same-length-2 c = search needs
 
 returns-2 : tie.Need-returns-2
 returns-2 c =
@@ -64,14 +55,5 @@ returns-2 c =
 pub perform-spec : {M : Type 1} → statement M
 perform-spec =
     tie.close
-    (tie.spec
-    at-requires
-    is-possible-requires
-    same-length
-    returns
-    of-requires
-    apply-requires
-    size-requires
-    place-requires
-    same-length-2
-    returns-2)
+    (tie.spec at-requires is-possible-requires (λ c. search needs) returns of-requires apply-requires
+    (λ c κs. search needs) place-requires (λ c. search needs) returns-2)

@@ -6,12 +6,6 @@ use Rattle.place.proofs.Written.{placed-right}
 use Rattle.place.proofs.place.Statement.{statement}
 use Rattle.place.proofs.place.Tie as tie
 
-left-requires : tie.Need-left-requires
-left-requires c κs = search needs
-
-right-requires : tie.Need-right-requires
-right-requires c κs = search needs
-
 put-requires : tie.Need-put-requires
 put-requires c κs =
     let image = image-fine _ (c .before .before .before .before .before .before .pre .fine) in
@@ -22,12 +16,6 @@ put-requires-2 c κs =
     let start = c .before .before .before .before .before .before .before .before .before .before in
     let image = image-fine _ (start .pre .fine) in
     search needs
-
-enum-told : tie.Need-enum-told
-enum-told c = search needs
-
-enum-known-reach : tie.Need-enum-known-reach
-enum-known-reach c = search needs
 
 request-requires : tie.Need-request-requires
 request-requires c κs =
@@ -41,9 +29,6 @@ request-requires c κs =
     let few = few-asks pre (told .reach .given .1) in
     search needs
 
-enum-told-2 : tie.Need-enum-told-2
-enum-told-2 c = search needs
-
 arrive-requires : tie.Need-arrive-requires
 arrive-requires c κs =
     let right = c .before .before .before .before .before .before .before .before .before .before .before in
@@ -52,9 +37,6 @@ arrive-requires c κs =
     let beside = beside-right pre (right .right .ensures) in
     search needs
 
-same-length : tie.Need-same-length
-same-length c = search needs
-
 returns : tie.Need-returns
 returns c =
     let header = c .before .before .before .before in
@@ -62,9 +44,6 @@ returns c =
     let known = own .before .before .before .before .before .before in
     placed-own (λ k. known .slice-known .given k .fits) (known .before .pre) (own .put .ensures) (header .put2 .ensures)
     (c .enum-told .given .1)
-
-same-length-2 : tie.Need-same-length-2
-same-length-2 c = search needs
 
 returns-2 : tie.Need-returns-2
 returns-2 c =
@@ -76,9 +55,6 @@ returns-2 c =
     let known = left .before .before .before in
     placed-left (λ k. known .slice-known .given k .fits) (known .before .pre)
     (own .put .ensures) (header .put2 .ensures) (told .reach .given .1) (left .left .ensures) (asked .request .ensures)
-
-same-length-3 : tie.Need-same-length-3
-same-length-3 c = search needs
 
 returns-3 : tie.Need-returns-3
 returns-3 c =
@@ -95,19 +71,6 @@ returns-3 c =
 pub place-spec : {M : Type 1} → statement M
 place-spec =
     tie.close
-    (tie.spec
-    left-requires
-    right-requires
-    put-requires
-    put-requires-2
-    enum-told
-    enum-known-reach
-    request-requires
-    enum-told-2
-    arrive-requires
-    same-length
-    returns
-    same-length-2
-    returns-2
-    same-length-3
-    returns-3)
+    (tie.spec (λ c κs. search needs) (λ c κs. search needs) put-requires put-requires-2 (λ c. search needs)
+    (λ c. search needs) request-requires (λ c. search needs) arrive-requires (λ c. search needs) returns
+    (λ c. search needs) returns-2 (λ c. search needs) returns-3)

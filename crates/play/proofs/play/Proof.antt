@@ -19,15 +19,6 @@ loop-holds c =
     going-start (c .before .before .before .pre) (λ i. c .before .before .slice-known .given i .fits)
     (λ i. c .before .shared-slice-known .given i .fits)
 
-add-most : tie.Need-add-most Inv-loop μ-loop
-add-most c = search needs
-
-add-at : tie.Need-add-at Inv-loop μ-loop
-add-at c = search needs
-
-mul-turns : tie.Need-mul-turns Inv-loop μ-loop
-mul-turns c = search needs
-
 turns-requires : tie.Need-turns-requires Inv-loop μ-loop
 turns-requires c κs =
     let turn = c .before .before .before in
@@ -37,9 +28,6 @@ turns-requires c κs =
     let ends : Ends (here .k) (turn .before .before .before .before .before .args .events) (block .if1 .end) =
     ⊎-elim (λ w. search needs) (λ w. search needs) (block .if1 .came) in
     may-turn (here .inv) ends
-
-added-to-requires : tie.Need-added-to-requires Inv-loop μ-loop
-added-to-requires c κs = search needs
 
 sub-at : tie.Need-sub-at Inv-loop μ-loop
 sub-at c =
@@ -76,29 +64,11 @@ loop-again c =
 same-length : tie.Need-same-length Inv-loop μ-loop
 same-length c = stands (c .before .loop .inv) .long
 
-same-length-2 : tie.Need-same-length-2 Inv-loop μ-loop
-same-length-2 c = search needs
-
 returns : tie.Need-returns Inv-loop μ-loop
 returns c = played (c .before .loop .inv) (c .loop-test .left)
 
 pub play-spec : {M : Type 1} → statement M
 play-spec =
     tie.close
-    (tie.spec
-    Inv-loop
-    μ-loop
-    loop-holds
-    add-most
-    add-at
-    mul-turns
-    turns-requires
-    added-to-requires
-    sub-at
-    mul-at
-    add-at-2
-    loop-less
-    loop-again
-    same-length
-    same-length-2
-    returns)
+    (tie.spec Inv-loop μ-loop loop-holds (λ c. search needs) (λ c. search needs) (λ c. search needs) turns-requires
+    (λ c κs. search needs) sub-at mul-at add-at-2 loop-less loop-again same-length (λ c. search needs) returns)

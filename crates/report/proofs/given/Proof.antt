@@ -5,19 +5,10 @@ use lib.ListN.{List·getD-eq-default}
 use Rattle.report.proofs.given.Statement.{statement}
 use Rattle.report.proofs.given.Tie as tie
 
-shared-slice-read-wide64 : tie.Need-shared-slice-read-wide64
-shared-slice-read-wide64 c = omega arith
-
-wide64-requires : tie.Need-wide64-requires
-wide64-requires c κs = tt
-
-returns : tie.Need-returns
-returns c = omega arith
-
 returns-2 : tie.Need-returns-2
 returns-2 c =
     let a = c .before .before .args in
     (sym (List·getD-eq-default (a .input .now) 0 (omega arith)), omega arith)
 
 pub given-spec : {M : Type 1} → statement M
-given-spec = tie.close (tie.spec shared-slice-read-wide64 wide64-requires returns returns-2)
+given-spec = tie.close (tie.spec (λ c. omega arith) (λ c κs. tt) (λ c. omega arith) returns-2)

@@ -7,16 +7,10 @@ use Rattle.result.proofs.Words.{told-in-ten}
 use Rattle.result.proofs.tell_one.Statement.{statement}
 use Rattle.result.proofs.tell_one.Tie as tie
 
-tell-requires : tie.Need-tell-requires
-tell-requires c κs = search needs
-
-same-length : tie.Need-same-length
-same-length c = omega arith
-
 returns : tie.Need-returns
 returns c =
     let a = c .before .before .before .before .before .before .args in
     told-in-ten (a .result .now) (a .value ∷ []) (lit≤ tt) (c .before .before .tell .ensures)
 
 pub tell-one-spec : {M : Type 1} → statement M
-tell-one-spec = tie.close (tie.spec tell-requires same-length returns)
+tell-one-spec = tie.close (tie.spec (λ c κs. search needs) (λ c. omega arith) returns)

@@ -6,60 +6,12 @@ use Rattle.run.proofs.Ways.{image-refused, tape-refused, playable, ledg
 use Rattle.run.proofs.run.Statement.{statement}
 use Rattle.run.proofs.run.Tie as tie
 
-of-requires : tie.Need-of-requires
-of-requires c κs = tt
-
-enum-known-checked : tie.Need-enum-known-checked
-enum-known-checked c = omega arith
-
-enum-known-checked-2 : tie.Need-enum-known-checked-2
-enum-known-checked-2 c = omega arith
-
-enum-known-checked-3 : tie.Need-enum-known-checked-3
-enum-known-checked-3 c = omega arith
-
-enum-told : tie.Need-enum-told
-enum-told c = omega arith
-
-same-length : tie.Need-same-length
-same-length c = omega arith
-
-returns : tie.Need-returns
-returns c = absurd (omega arith)
-
-same-length-2 : tie.Need-same-length-2
-same-length-2 c = omega arith
-
 returns-2 : tie.Need-returns-2
 returns-2 c =
     let i = c .before .before .before .before .before .before in
     let a = i .before .before .before .before .before .args in
     image-refused (a .image .now) (a .tape .now) (a .ledger .now) (i .of .ensures)
     (c .before .before .before .before .checked2 .given .1 ∙ c .before .checked3 .given .1)
-
-of-requires-2 : tie.Need-of-requires-2
-of-requires-2 c κs = tt
-
-enum-known-counted : tie.Need-enum-known-counted
-enum-known-counted c = omega arith
-
-enum-known-counted-2 : tie.Need-enum-known-counted-2
-enum-known-counted-2 c = omega arith
-
-enum-known-counted-3 : tie.Need-enum-known-counted-3
-enum-known-counted-3 c = omega arith
-
-enum-told-2 : tie.Need-enum-told-2
-enum-told-2 c = omega arith
-
-same-length-3 : tie.Need-same-length-3
-same-length-3 c = omega arith
-
-returns-3 : tie.Need-returns-3
-returns-3 c = absurd (omega arith)
-
-same-length-4 : tie.Need-same-length-4
-same-length-4 c = omega arith
 
 returns-4 : tie.Need-returns-4
 returns-4 c =
@@ -77,9 +29,6 @@ has-room-requires c κs =
     playable (a .image .now) (a .tape .now) (a .ledger .now) (i .of .ensures) (t .before .before .checked .given .1)
     (t .of2 .ensures) (c .before .before .counted .given .1)
 
-same-length-5 : tie.Need-same-length-5
-same-length-5 c = omega arith
-
 returns-5 : tie.Need-returns-5
 returns-5 c =
     let t = c .before .before .before .before .before .before in
@@ -96,12 +45,6 @@ play-requires c κs =
     let a = i .before .before .before .before .before .args in
     playable (a .image .now) (a .tape .now) (a .ledger .now) (i .of .ensures) (t .before .before .checked .given .1)
     (t .of2 .ensures) (c .before .before .before .before .before .before .counted .given .1)
-
-same-length-6 : tie.Need-same-length-6
-same-length-6 c = omega arith
-
-same-length-7 : tie.Need-same-length-7
-same-length-7 c = omega arith
 
 returns-6 : tie.Need-returns-6
 returns-6 c =
@@ -121,29 +64,8 @@ returns-6 c =
 pub run-spec : {M : Type 1} → statement M
 run-spec =
     tie.close
-    (tie.spec
-    of-requires
-    enum-known-checked
-    enum-known-checked-2
-    enum-known-checked-3
-    enum-told
-    same-length
-    returns
-    same-length-2
-    returns-2
-    of-requires-2
-    enum-known-counted
-    enum-known-counted-2
-    enum-known-counted-3
-    enum-told-2
-    same-length-3
-    returns-3
-    same-length-4
-    returns-4
-    has-room-requires
-    same-length-5
-    returns-5
-    play-requires
-    same-length-6
-    same-length-7
-    returns-6)
+    (tie.spec (λ c κs. tt) (λ c. omega arith) (λ c. omega arith) (λ c. omega arith) (λ c. omega arith)
+    (λ c. omega arith) (λ c. absurd (omega arith)) (λ c. omega arith) returns-2 (λ c κs. tt) (λ c. omega arith)
+    (λ c. omega arith) (λ c. omega arith) (λ c. omega arith) (λ c. omega arith) (λ c. absurd (omega arith))
+    (λ c. omega arith) returns-4 has-room-requires (λ c. omega arith) returns-5 play-requires (λ c. omega arith)
+    (λ c. omega arith) returns-6)

@@ -5,15 +5,6 @@ use Rattle.sound.proofs.Whole.{mask-refuses, message-refuses, flags-ref
 use Rattle.sound.proofs.is_sound.Statement.{statement}
 use Rattle.sound.proofs.is_sound.Tie as tie
 
-eight-at-requires : tie.Need-eight-at-requires
-eight-at-requires c κs = search needs
-
-eight-at-requires-2 : tie.Need-eight-at-requires-2
-eight-at-requires-2 c κs = search needs
-
-over-requires : tie.Need-over-requires
-over-requires c κs = search needs
-
 returns : tie.Need-returns
 returns c =
     let walked = c .before in
@@ -22,9 +13,6 @@ returns c =
     let start = known .before in
     mask-refuses (start .args .image .now) (λ k. omega (arith, known .shared-slice-known .given k)) (start .pre .0)
     (start .pre .1) (read .before .eight-at .ensures) (read .eight-at2 .ensures) (walked .over .ensures) (c .if1 .taken)
-
-mul-if2 : tie.Need-mul-if2
-mul-if2 c = search needs
 
 returns-2 : tie.Need-returns-2
 returns-2 c =
@@ -44,9 +32,6 @@ returns-3 c =
     flags-refuse (start .args .image .now) (λ k. omega (arith, known .shared-slice-known .given k)) (start .pre .0)
     (start .pre .1) (read .before .eight-at .ensures) (read .eight-at2 .ensures) (walked .over .ensures) (c .if3 .taken)
 
-counts-requires : tie.Need-counts-requires
-counts-requires c κs = search needs
-
 returns-4 : tie.Need-returns-4
 returns-4 c =
     let ordered = c .before .before .before .before .before in
@@ -61,13 +46,5 @@ returns-4 c =
 pub is-sound-spec : {M : Type 1} → statement M
 is-sound-spec =
     tie.close
-    (tie.spec
-    eight-at-requires
-    eight-at-requires-2
-    over-requires
-    returns
-    mul-if2
-    returns-2
-    returns-3
-    counts-requires
-    returns-4)
+    (tie.spec (λ c κs. search needs) (λ c κs. search needs) (λ c κs. search needs) returns (λ c. search needs)
+    returns-2 returns-3 (λ c κs. search needs) returns-4)

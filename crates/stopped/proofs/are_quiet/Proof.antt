@@ -17,24 +17,6 @@ abbrev μ-loop : tie.MeasureT-loop
 loop-holds : tie.Need-loop-holds Inv-loop μ-loop
 loop-holds c = (omega arith, quiet-none (c .before .args .image .now))
 
-mul-eight-at : tie.Need-mul-eight-at Inv-loop μ-loop
-mul-eight-at c = omega arith
-
-add-eight-at : tie.Need-add-eight-at Inv-loop μ-loop
-add-eight-at c = omega arith
-
-eight-at-requires : tie.Need-eight-at-requires Inv-loop μ-loop
-eight-at-requires c κs = omega arith
-
-mul-stages : tie.Need-mul-stages Inv-loop μ-loop
-mul-stages c = omega arith
-
-add-i : tie.Need-add-i Inv-loop μ-loop
-add-i c = omega arith
-
-loop-less : tie.Need-loop-less Inv-loop μ-loop
-loop-less c = omega arith
-
 loop-again : tie.Need-loop-again Inv-loop μ-loop
 loop-again c =
     let l = c .before .before .loop in
@@ -55,15 +37,5 @@ returns c =
 pub are-quiet-spec : {M : Type 1} → statement M
 are-quiet-spec =
     tie.close
-    (tie.spec
-    Inv-loop
-    μ-loop
-    loop-holds
-    mul-eight-at
-    add-eight-at
-    eight-at-requires
-    mul-stages
-    add-i
-    loop-less
-    loop-again
-    returns)
+    (tie.spec Inv-loop μ-loop loop-holds (λ c. omega arith) (λ c. omega arith) (λ c κs. omega arith)
+    (λ c. omega arith) (λ c. omega arith) (λ c. omega arith) loop-again returns)

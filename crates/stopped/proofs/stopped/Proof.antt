@@ -5,24 +5,6 @@ use Rattle.stopped.proofs.Ways.{stopped-refused, may-walk, stopped-yes,
 use Rattle.stopped.proofs.stopped.Statement.{statement}
 use Rattle.stopped.proofs.stopped.Tie as tie
 
-of-requires : tie.Need-of-requires
-of-requires c κs = tt
-
-enum-known-checked : tie.Need-enum-known-checked
-enum-known-checked c = omega arith
-
-enum-known-checked-2 : tie.Need-enum-known-checked-2
-enum-known-checked-2 c = omega arith
-
-enum-known-checked-3 : tie.Need-enum-known-checked-3
-enum-known-checked-3 c = omega arith
-
-enum-told : tie.Need-enum-told
-enum-told c = omega arith
-
-returns : tie.Need-returns
-returns c = absurd (omega arith)
-
 returns-2 : tie.Need-returns-2
 returns-2 c =
     let a = c .before .before .before .before .before .before .before .before .args in
@@ -49,14 +31,5 @@ returns-4 c =
 pub stopped-spec : {M : Type 1} → statement M
 stopped-spec =
     tie.close
-    (tie.spec
-    of-requires
-    enum-known-checked
-    enum-known-checked-2
-    enum-known-checked-3
-    enum-told
-    returns
-    returns-2
-    are-quiet-requires
-    returns-3
-    returns-4)
+    (tie.spec (λ c κs. tt) (λ c. omega arith) (λ c. omega arith) (λ c. omega arith) (λ c. omega arith)
+    (λ c. absurd (omega arith)) returns-2 are-quiet-requires returns-3 returns-4)

@@ -6,31 +6,10 @@ use Rattle.tape.proofs.Reader.{read-size, read-tape, read-blocks, read-
 use Rattle.tape.proofs.read.Statement.{statement}
 use Rattle.tape.proofs.read.Tie as tie
 
-fits-requires : tie.Need-fits-requires
-fits-requires c κs = omega arith
-
 returns : tie.Need-returns
 returns c =
     let a = c .before .before .before .before .args in
     read-size (a .n) (a .tape .now) (a .output .now) (c .before .fits2 .ensures) (not-true _ (c .if1 .taken))
-
-of-requires : tie.Need-of-requires
-of-requires c κs = omega arith
-
-enum-known-counted : tie.Need-enum-known-counted
-enum-known-counted c = omega arith
-
-enum-known-counted-2 : tie.Need-enum-known-counted-2
-enum-known-counted-2 c = omega arith
-
-enum-known-counted-3 : tie.Need-enum-known-counted-3
-enum-known-counted-3 c = omega arith
-
-enum-told : tie.Need-enum-told
-enum-told c = omega arith
-
-returns-2 : tie.Need-returns-2
-returns-2 c = absurd (omega arith)
 
 returns-3 : tie.Need-returns-3
 returns-3 c =
@@ -66,9 +45,6 @@ unpack-requires c κs =
     (not-false _ (t .before .if1 .left)) (t .of .ensures) (c .before .before .before .counted .given .1) in
     omega arith
 
-same-length : tie.Need-same-length
-same-length c = omega arith
-
 returns-5 : tie.Need-returns-5
 returns-5 c =
     let room = c .before .before .before .before in
@@ -82,18 +58,6 @@ returns-5 c =
 pub read-spec : {M : Type 1} → statement M
 read-spec =
     tie.close
-    (tie.spec
-    fits-requires
-    returns
-    of-requires
-    enum-known-counted
-    enum-known-counted-2
-    enum-known-counted-3
-    enum-told
-    returns-2
-    returns-3
-    mul-list-length
-    returns-4
-    unpack-requires
-    same-length
-    returns-5)
+    (tie.spec (λ c κs. omega arith) returns (λ c κs. omega arith) (λ c. omega arith) (λ c. omega arith)
+    (λ c. omega arith) (λ c. omega arith) (λ c. absurd (omega arith)) returns-3 mul-list-length returns-4
+    unpack-requires (λ c. omega arith) returns-5)

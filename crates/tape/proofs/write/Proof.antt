@@ -6,31 +6,10 @@ use Rattle.tape.proofs.Writer.{write-size, write-list, write-events, wr
 use Rattle.tape.proofs.write.Statement.{statement}
 use Rattle.tape.proofs.write.Tie as tie
 
-fits-requires : tie.Need-fits-requires
-fits-requires c κs = omega arith
-
 returns : tie.Need-returns
 returns c =
     let a = c .before .before .before .before .args in
     write-size (a .n) (a .list .now) (a .output .now) (c .before .fits2 .ensures) (not-true _ (c .if1 .taken))
-
-list-verdict-requires : tie.Need-list-verdict-requires
-list-verdict-requires c κs = omega arith
-
-enum-told : tie.Need-enum-told
-enum-told c = omega arith
-
-enum-known-verdict : tie.Need-enum-known-verdict
-enum-known-verdict c = omega arith
-
-enum-known-verdict-2 : tie.Need-enum-known-verdict-2
-enum-known-verdict-2 c = omega arith
-
-enum-told-2 : tie.Need-enum-told-2
-enum-told-2 c = omega arith
-
-returns-2 : tie.Need-returns-2
-returns-2 c = absurd (omega arith)
 
 returns-3 : tie.Need-returns-3
 returns-3 c =
@@ -47,9 +26,6 @@ blocks-for-requires c κs =
     write-events (a .n) (a .list .now) (a .output .now) (t .before .before .fits2 .ensures)
     (not-false _ (t .before .if1 .left)) (t .list-verdict .ensures) (c .enum-told .given .1)
 
-mul-tape-length : tie.Need-mul-tape-length
-mul-tape-length c = omega arith
-
 returns-4 : tie.Need-returns-4
 returns-4 c =
     let t = c .before .before .before .before in
@@ -57,12 +33,6 @@ returns-4 c =
     write-short (a .n) (a .list .now) (a .output .now) (t .before .before .fits2 .ensures)
     (not-false _ (t .before .if1 .left)) (t .list-verdict .ensures) (c .before .before .enum-told .given .1)
     (c .before .blocks-for .ensures .0) (c .if2 .taken)
-
-pack-requires : tie.Need-pack-requires
-pack-requires c κs = omega arith
-
-same-length : tie.Need-same-length
-same-length c = omega arith
 
 returns-5 : tie.Need-returns-5
 returns-5 c =
@@ -77,19 +47,6 @@ returns-5 c =
 pub write-spec : {M : Type 1} → statement M
 write-spec =
     tie.close
-    (tie.spec
-    fits-requires
-    returns
-    list-verdict-requires
-    enum-told
-    enum-known-verdict
-    enum-known-verdict-2
-    enum-told-2
-    returns-2
-    returns-3
-    blocks-for-requires
-    mul-tape-length
-    returns-4
-    pack-requires
-    same-length
-    returns-5)
+    (tie.spec (λ c κs. omega arith) returns (λ c κs. omega arith) (λ c. omega arith) (λ c. omega arith)
+    (λ c. omega arith) (λ c. omega arith) (λ c. absurd (omega arith)) returns-3 blocks-for-requires (λ c. omega arith)
+    returns-4 (λ c κs. omega arith) (λ c. omega arith) returns-5)

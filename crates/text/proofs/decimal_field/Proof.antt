@@ -6,15 +6,6 @@ use Rattle.text.proofs.Laws.{piece-byte}
 use Rattle.text.proofs.decimal_field.Statement.{statement}
 use Rattle.text.proofs.decimal_field.Tie as tie
 
-put-decimal-requires : tie.Need-put-decimal-requires
-put-decimal-requires c κs = omega arith
-
-slice-write-out : tie.Need-slice-write-out
-slice-write-out c = omega arith
-
-add-result : tie.Need-add-result
-add-result c = omega arith
-
 same-length : tie.Need-same-length
 same-length c =
     let p = c .before .before .put-decimal in
@@ -24,4 +15,5 @@ returns : tie.Need-returns
 returns c = (piece-byte (c .before .before .put-decimal .ensures) _ (omega arith), omega arith)
 
 pub decimal-field-spec : {M : Type 1} → statement M
-decimal-field-spec = tie.close (tie.spec put-decimal-requires slice-write-out add-result same-length returns)
+decimal-field-spec = tie.close (tie.spec (λ c κs. omega arith) (λ c. omega arith) (λ c. omega arith) same-length
+    returns)

@@ -6,15 +6,6 @@ use Rattle.text.proofs.Laws.{piece-byte}
 use Rattle.text.proofs.text_field.Statement.{statement}
 use Rattle.text.proofs.text_field.Tie as tie
 
-put-text-requires : tie.Need-put-text-requires
-put-text-requires c κs = omega arith
-
-slice-write-out : tie.Need-slice-write-out
-slice-write-out c = omega arith
-
-add-result : tie.Need-add-result
-add-result c = omega arith
-
 same-length : tie.Need-same-length
 same-length c =
     let p = c .before .before .put-text in
@@ -24,4 +15,4 @@ returns : tie.Need-returns
 returns c = (piece-byte (c .before .before .put-text .ensures) _ (omega arith), omega arith)
 
 pub text-field-spec : {M : Type 1} → statement M
-text-field-spec = tie.close (tie.spec put-text-requires slice-write-out add-result same-length returns)
+text-field-spec = tie.close (tie.spec (λ c κs. omega arith) (λ c. omega arith) (λ c. omega arith) same-length returns)

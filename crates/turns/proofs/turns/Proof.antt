@@ -25,15 +25,9 @@ loop-holds c =
     going-start (c .before .before .before .pre) (λ i. c .before .before .slice-known .given i .fits)
     (λ i. c .before .shared-slice-known .given i .fits)
 
-read-requires : tie.Need-read-requires Inv-loop μ-loop
-read-requires c κs = search needs
-
 perform-requires : tie.Need-perform-requires Inv-loop μ-loop
 perform-requires c κs =
     may-perform (c .before .before .before .loop .inv) (c .before .before .loop-test .taken) (c .before .read .ensures)
-
-outcome-number-requires : tie.Need-outcome-number-requires Inv-loop μ-loop
-outcome-number-requires c κs = search needs
 
 add-counts : tie.Need-add-counts Inv-loop μ-loop
 unfolding littleEndian
@@ -41,9 +35,6 @@ add-counts c = search needs
 
 mul-counts : tie.Need-mul-counts Inv-loop μ-loop
 mul-counts c = let number = numbered (c .before .before .before .before .perform .result .outcome) in search needs
-
-cast-counts : tie.Need-cast-counts Inv-loop μ-loop
-cast-counts c = search needs
 
 shl-counts : tie.Need-shl-counts Inv-loop μ-loop
 shl-counts c = let number = numbered (c .before .before .before .before .perform .result .outcome) in search needs
@@ -62,9 +53,6 @@ add-counts-3 c =
 add-counts-2 : tie.Need-add-counts-2 Inv-loop μ-loop
 add-counts-2 c = omega (arith, add-counts-3 c)
 
-cast-enter : tie.Need-cast-enter Inv-loop μ-loop
-cast-enter c = search needs
-
 enter-requires : tie.Need-enter-requires Inv-loop μ-loop
 enter-requires c κs =
     let turn = c .before .before .before .before .before .before .before .before .before .before in
@@ -72,18 +60,6 @@ enter-requires c κs =
     let may = may-perform (turn .before .loop .inv) (turn .loop-test .taken) (event .ensures) in
     let image = image-fine _ (may .fine) in
     search needs
-
-add-place : tie.Need-add-place Inv-loop μ-loop
-add-place c = search needs
-
-add-k : tie.Need-add-k Inv-loop μ-loop
-add-k c = search needs
-
-add-at : tie.Need-add-at Inv-loop μ-loop
-add-at c = search needs
-
-loop-less : tie.Need-loop-less Inv-loop μ-loop
-loop-less c = search needs
 
 loop-again : tie.Need-loop-again Inv-loop μ-loop
 loop-again c =
@@ -107,35 +83,13 @@ loop-again c =
 same-length : tie.Need-same-length Inv-loop μ-loop
 same-length c = stands (c .before .loop .inv) .long
 
-same-length-2 : tie.Need-same-length-2 Inv-loop μ-loop
-same-length-2 c = search needs
-
 returns : tie.Need-returns Inv-loop μ-loop
 returns c = gone (c .before .loop .inv) (c .loop-test .left)
 
 pub turns-spec : {M : Type 1} → statement M
 turns-spec =
     tie.close
-    (tie.spec
-    Inv-loop
-    μ-loop
-    loop-holds
-    read-requires
-    perform-requires
-    outcome-number-requires
-    add-counts
-    mul-counts
-    cast-counts
-    shl-counts
-    add-counts-2
-    add-counts-3
-    cast-enter
-    enter-requires
-    add-place
-    add-k
-    add-at
-    loop-less
-    loop-again
-    same-length
-    same-length-2
-    returns)
+    (tie.spec Inv-loop μ-loop loop-holds (λ c κs. search needs) perform-requires (λ c κs. search needs) add-counts
+    mul-counts (λ c. search needs) shl-counts add-counts-2 add-counts-3 (λ c. search needs) enter-requires
+    (λ c. search needs) (λ c. search needs) (λ c. search needs) (λ c. search needs) loop-again same-length
+    (λ c. search needs) returns)

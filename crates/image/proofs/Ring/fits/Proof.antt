@@ -3,8 +3,5 @@ use mathlib.Core.Path.{refl}
 use Rattle.image.proofs.Ring.fits.Statement.{statement}
 use Rattle.image.proofs.Ring.fits.Tie as tie
 
-returns : tie.Need-returns
-returns c = refl
-
 pub fits-spec : {M : Type 1} → statement M
-fits-spec = tie.close (tie.spec returns)
+fits-spec = tie.close (tie.spec (λ c. refl))

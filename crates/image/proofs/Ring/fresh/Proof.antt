@@ -16,9 +16,6 @@ use Rattle.image.proofs.Ring.fresh.Tie as tie
 size : (c : tie.Else1) → SizeFits (c .before .before .before .args .n)
 size c = size-fits (c .before .before .before .args .n) (sym (c .before .fits2 .ensures) ∙ not-false _ (c .if1 .left))
 
-fits-requires : tie.Need-fits-requires
-fits-requires c κs = tt
-
 returns : tie.Need-returns
 returns c =
     let a = c .before .before .before .args in
@@ -49,14 +46,8 @@ mul-at c = omega (arith, size (c .before .before) .most)
 add-at : tie.Need-add-at
 add-at c = omega (arith, size (c .before .before) .most)
 
-clear-requires : tie.Need-clear-requires
-clear-requires c κs = omega arith
-
 cast-image : tie.Need-cast-image
 cast-image c = omega (arith, size (c .before .before .before .before .before .before) .most)
-
-slice-write-image : tie.Need-slice-write-image
-slice-write-image c = omega arith
 
 add-image : tie.Need-add-image
 add-image c = omega (arith, size (c .before .before .before .before .before .before) .most)
@@ -80,19 +71,5 @@ returns-4 c =
 pub fresh-spec : {M : Type 1} → statement M
 fresh-spec =
     tie.close
-    (tie.spec
-    fits-requires
-    returns
-    returns-2
-    mul-count
-    add-count
-    returns-3
-    mul-at
-    add-at
-    clear-requires
-    cast-image
-    slice-write-image
-    add-image
-    slice-write-image-2
-    same-length
-    returns-4)
+    (tie.spec (λ c κs. tt) returns returns-2 mul-count add-count returns-3 mul-at add-at (λ c κs. omega arith)
+    cast-image (λ c. omega arith) add-image slice-write-image-2 same-length returns-4)

@@ -5,12 +5,6 @@ use Rattle.machine.proofs.Ring.{left-first, left-inner}
 use Rattle.image.proofs.Ring.left.Statement.{statement}
 use Rattle.image.proofs.Ring.left.Tie as tie
 
-sub-result : tie.Need-sub-result
-sub-result c = omega arith
-
-sub-result-2 : tie.Need-sub-result-2
-sub-result-2 c = omega arith
-
 returns : tie.Need-returns
 returns c = rw (c .before .if1 .taken) (sym (left-first (c .before .before .args .self .size) (omega arith)))
 
@@ -18,4 +12,4 @@ returns-2 : tie.Need-returns-2
 returns-2 c = sym (left-inner (c .before .args .self .size) (c .before .args .i) (omega arith) (omega arith))
 
 pub left-spec : {M : Type 1} → statement M
-left-spec = tie.close (tie.spec sub-result sub-result-2 returns returns-2)
+left-spec = tie.close (tie.spec (λ c. omega arith) (λ c. omega arith) returns returns-2)

@@ -8,24 +8,6 @@ use Rattle.ring_host.proofs.Short.{image-refuses-first, event-refuses, 
 use Rattle.ring_host.proofs.ring_step.short_step.Statement.{statement}
 use Rattle.ring_host.proofs.ring_step.short_step.Tie as tie
 
-of-requires : tie.Need-of-requires
-of-requires c κs = tt
-
-enum-known-checked : tie.Need-enum-known-checked
-enum-known-checked c = omega arith
-
-enum-known-checked-2 : tie.Need-enum-known-checked-2
-enum-known-checked-2 c = omega arith
-
-enum-known-checked-3 : tie.Need-enum-known-checked-3
-enum-known-checked-3 c = omega arith
-
-enum-told : tie.Need-enum-told
-enum-told c = omega arith
-
-returns : tie.Need-returns
-returns c = absurd (omega arith)
-
 returns-2 : tie.Need-returns-2
 unfolding stepVerdict
 returns-2 c =
@@ -35,15 +17,6 @@ returns-2 c =
     let a = i .before .before .before .args in
     image-refuses-first (a .image .now) (i .of .ensures) (eventVerdict codes (sizeIn (a .image .now)) (a .event .now))
     (one .checked2 .given .1 ∙ other .checked3 .given .1)
-
-parse-requires : tie.Need-parse-requires
-parse-requires c κs = tt
-
-enum-known-parsed : tie.Need-enum-known-parsed
-enum-known-parsed c = omega arith
-
-enum-told-2 : tie.Need-enum-told-2
-enum-told-2 c = omega arith
 
 returns-3 : tie.Need-returns-3
 returns-3 c =
@@ -64,16 +37,5 @@ returns-4 c =
 pub short-step-spec : {M : Type 1} → statement M
 short-step-spec =
     tie.close
-    (tie.spec
-    of-requires
-    enum-known-checked
-    enum-known-checked-2
-    enum-known-checked-3
-    enum-told
-    returns
-    returns-2
-    parse-requires
-    enum-known-parsed
-    enum-told-2
-    returns-3
-    returns-4)
+    (tie.spec (λ c κs. tt) (λ c. omega arith) (λ c. omega arith) (λ c. omega arith) (λ c. omega arith)
+    (λ c. absurd (omega arith)) returns-2 (λ c κs. tt) (λ c. omega arith) (λ c. omega arith) returns-3 returns-4)

@@ -4,15 +4,6 @@ use Rattle.ring_host.proofs.Short.{image-refuses, image-passes}
 use Rattle.ring_host.proofs.ring_stopped.short_stopped.Statement.{statement}
 use Rattle.ring_host.proofs.ring_stopped.short_stopped.Tie as tie
 
-of-requires : tie.Need-of-requires
-of-requires c κs = tt
-
-enum-known-checked : tie.Need-enum-known-checked
-enum-known-checked c = omega arith
-
-enum-told : tie.Need-enum-told
-enum-told c = omega arith
-
 returns : tie.Need-returns
 returns c =
     let a = c .before .before .before .before .args in
@@ -25,4 +16,4 @@ returns-2 c =
 
 pub short-stopped-spec : {M : Type 1} → statement M
 short-stopped-spec =
-    tie.close (tie.spec of-requires enum-known-checked enum-told returns returns-2)
+    tie.close (tie.spec (λ c κs. tt) (λ c. omega arith) (λ c. omega arith) returns returns-2)

@@ -12,9 +12,6 @@ use Rattle.ring_tools.proofs.ring_fresh.short_fresh.Tie as tie
 size : (c : tie.Else1) → SizeFits (c .before .before .before .args .n)
 size c = size-fits (c .before .before .before .args .n) (sym (c .before .fits2 .ensures) ∙ not-false _ (c .if1 .left))
 
-fits-requires : tie.Need-fits-requires
-fits-requires c κs = tt
-
 returns : tie.Need-returns
 returns c =
     let a = c .before .before .before .args in
@@ -47,4 +44,4 @@ returns-4 c =
 
 pub short-fresh-spec : {M : Type 1} → statement M
 short-fresh-spec =
-    tie.close (tie.spec fits-requires returns returns-2 mul-if3 add-if3 returns-3 returns-4)
+    tie.close (tie.spec (λ c κs. tt) returns returns-2 mul-if3 add-if3 returns-3 returns-4)

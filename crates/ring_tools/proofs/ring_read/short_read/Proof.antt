@@ -8,23 +8,11 @@ use Rattle.ring_tools.proofs.Short.{size-refuses, input-refuses, input-
 use Rattle.ring_tools.proofs.ring_read.short_read.Statement.{statement}
 use Rattle.ring_tools.proofs.ring_read.short_read.Tie as tie
 
-fits-requires : tie.Need-fits-requires
-fits-requires c κs = tt
-
 returns : tie.Need-returns
 returns c =
     let a = c .before .before .before .args in
     size-refuses (a .n) (tapeVerdict codes (a .n) (a .tape .now)) (c .before .fits2 .ensures)
     (not-true _ (c .if1 .taken))
-
-of-requires : tie.Need-of-requires
-of-requires c κs = tt
-
-enum-known-counted : tie.Need-enum-known-counted
-enum-known-counted c = omega arith
-
-enum-told : tie.Need-enum-told
-enum-told c = omega arith
 
 returns-2 : tie.Need-returns-2
 returns-2 c =
@@ -45,4 +33,4 @@ returns-3 c =
 pub short-read-spec : {M : Type 1} → statement M
 short-read-spec =
     tie.close
-    (tie.spec fits-requires returns of-requires enum-known-counted enum-told returns-2 returns-3)
+    (tie.spec (λ c κs. tt) returns (λ c κs. tt) (λ c. omega arith) (λ c. omega arith) returns-2 returns-3)

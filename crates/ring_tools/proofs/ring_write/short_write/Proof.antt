@@ -7,23 +7,11 @@ use Rattle.ring_tools.proofs.Short.{size-refuses, input-refuses, input-
 use Rattle.ring_tools.proofs.ring_write.short_write.Statement.{statement}
 use Rattle.ring_tools.proofs.ring_write.short_write.Tie as tie
 
-fits-requires : tie.Need-fits-requires
-fits-requires c κs = tt
-
 returns : tie.Need-returns
 returns c =
     let a = c .before .before .before .args in
     size-refuses (a .n) (listVerdict codes (a .n) (a .list .now)) (c .before .fits2 .ensures)
     (not-true _ (c .if1 .taken))
-
-list-verdict-requires : tie.Need-list-verdict-requires
-list-verdict-requires c κs = tt
-
-enum-known-verdict : tie.Need-enum-known-verdict
-enum-known-verdict c = omega arith
-
-enum-told : tie.Need-enum-told
-enum-told c = omega arith
 
 returns-2 : tie.Need-returns-2
 returns-2 c =
@@ -44,11 +32,4 @@ returns-3 c =
 pub short-write-spec : {M : Type 1} → statement M
 short-write-spec =
     tie.close
-    (tie.spec
-    fits-requires
-    returns
-    list-verdict-requires
-    enum-known-verdict
-    enum-told
-    returns-2
-    returns-3)
+    (tie.spec (λ c κs. tt) returns (λ c κs. tt) (λ c. omega arith) (λ c. omega arith) returns-2 returns-3)

@@ -13,12 +13,6 @@ returns c =
     let s = c .before .before .args .image .now in
     checked-refused s refusal.Short (image-under-16 s (c .if1 .taken))
 
-shared-slice-read-wide : tie.Need-shared-slice-read-wide
-shared-slice-read-wide c = omega arith
-
-wide-requires : tie.Need-wide-requires
-wide-requires c κs = omega arith
-
 returns-2 : tie.Need-returns-2
 returns-2 c =
     let n = c .before .wide .ensures .0 in
@@ -31,21 +25,12 @@ returns-3 c =
     let s = c .before .before .before .before .before .before .args .image .now in
     checked-refused s refusal.Unsound (image-too-many s (omega arith) (omega arith) (omega arith))
 
-mul-if4 : tie.Need-mul-if4
-mul-if4 c = omega arith
-
-add-if4 : tie.Need-add-if4
-add-if4 c = omega arith
-
 returns-4 : tie.Need-returns-4
 returns-4 c =
     let n = c .before .before .before .wide .ensures .0 in
     let s = c .before .before .before .before .before .before .before .args .image .now in
     let size : SizeFits (sizeIn s) = record { least = omega arith; most = omega arith } in
     checked-refused s refusal.Short (image-short s (omega arith) size (omega arith))
-
-is-sound-requires : tie.Need-is-sound-requires
-is-sound-requires c κs = omega arith
 
 returns-5 : tie.Need-returns-5
 returns-5 c =
@@ -68,15 +53,5 @@ returns-6 c =
 pub of-spec : {M : Type 1} → statement M
 of-spec =
     tie.close
-    (tie.spec
-    returns
-    shared-slice-read-wide
-    wide-requires
-    returns-2
-    returns-3
-    mul-if4
-    add-if4
-    returns-4
-    is-sound-requires
-    returns-5
-    returns-6)
+    (tie.spec returns (λ c. omega arith) (λ c κs. omega arith) returns-2 returns-3 (λ c. omega arith)
+    (λ c. omega arith) returns-4 (λ c κs. omega arith) returns-5 returns-6)

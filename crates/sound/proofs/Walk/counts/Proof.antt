@@ -23,9 +23,6 @@ add-result c =
     let w = c .before .before .before .before .args .self in
     omega (arith, ones-le 64 (w .full) (omega arith), ones-le 64 (w .empty) (omega arith))
 
-returns-2 : tie.Need-returns-2
-returns-2 c = search needs
-
 pub counts-spec : {M : Type 1} → statement M
 counts-spec =
-    tie.close (tie.spec returns cast-result cast-result-2 mul-result add-result returns-2)
+    tie.close (tie.spec returns cast-result cast-result-2 mul-result add-result (λ c. search needs))

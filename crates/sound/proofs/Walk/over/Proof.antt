@@ -22,18 +22,6 @@ loop-holds c =
     let none : a .n - a .n ≡ 0 = omega arith in
     (omega arith, rw none (walk-none (a .image .now) (eqb (a .status) 1) (a .n)))
 
-sub-i : tie.Need-sub-i Inv-loop μ-loop
-sub-i c = omega arith
-
-mul-eight-at : tie.Need-mul-eight-at Inv-loop μ-loop
-mul-eight-at c = omega arith
-
-add-eight-at : tie.Need-add-eight-at Inv-loop μ-loop
-add-eight-at c = omega arith
-
-eight-at-requires : tie.Need-eight-at-requires Inv-loop μ-loop
-eight-at-requires c κs = omega arith
-
 on-requires : tie.Need-on-requires Inv-loop μ-loop
 on-requires c κs =
     let l = c .before .before .loop in
@@ -43,9 +31,6 @@ on-requires c κs =
       set-below (a .image .now) full (l .i) (a .n - l .i) (omega arith) (so .full),
       set-below (a .image .now) empty (l .i) (a .n - l .i) (omega arith) (so .empty),
     )
-
-loop-less : tie.Need-loop-less Inv-loop μ-loop
-loop-less c = omega arith
 
 loop-again : tie.Need-loop-again Inv-loop μ-loop
 loop-again c =
@@ -71,15 +56,5 @@ returns c =
 pub over-spec : {M : Type 1} → statement M
 over-spec =
     tie.close
-    (tie.spec
-    Inv-loop
-    μ-loop
-    loop-holds
-    sub-i
-    mul-eight-at
-    add-eight-at
-    eight-at-requires
-    on-requires
-    loop-less
-    loop-again
-    returns)
+    (tie.spec Inv-loop μ-loop loop-holds (λ c. omega arith) (λ c. omega arith) (λ c. omega arith)
+    (λ c κs. omega arith) on-requires (λ c. omega arith) loop-again returns)
