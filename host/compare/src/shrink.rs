@@ -1,0 +1,40 @@
+//! Makes a case on which two sides differ as small as it can, while they still differ on it.
+
+use crate::case::Case;
+
+/// What a case could become, one smaller case after another.
+pub type Smaller<'a, C> = Box<dyn Iterator<Item = C> + 'a>;
+
+/// A way to make a case smaller. No case that it gives may lead back to the one that it was given.
+pub type Way<C> = for<'a> fn(&'a C) -> Smaller<'a, C>;
+
+/// What may be spent on one case: a trial costs the bytes of its events, and some more.
+const BUDGET: usize = 400_000_000;
+
+/// The smallest case found from this one for which `differ` still holds: each way is gone to its end, where a smaller
+/// case takes the place of the one before and the way goes on in it, and all of them until none finds anything.
+pub fn shrink<C: Case>(mut case: C, differ: impl Fn(&C) -> bool) -> C {
+    let mut left = BUDGET;
+    let mut still_differs = |case: &C, smaller: &C| {
+        let price = 8 * smaller.events() + 1_000;
+        if smaller == case || left < price {
+            return false;
+        }
+        left -= price;
+        differ(smaller)
+    };
+    loop {
+        let before = case.clone();
+        for way in C::WAYS {
+            let mut from = 0;
+            loop {
+                let smaller = way(&case).enumerate().skip(from).find(|(_, smaller)| still_differs(&case, smaller));
+                let Some(found) = smaller else { break };
+                (from, case) = found;
+            }
+        }
+        if case == before {
+            return case;
+        }
+    }
+}

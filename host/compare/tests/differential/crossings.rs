@@ -1,0 +1,42 @@
+//! The known lists at whose end a request crosses the envelope on a link, from every home, and what follows them.
+
+use crate::case::Case;
+use crate::image::fresh;
+use crate::runs::records;
+use crate::steps::{likely, steps};
+use crate::tally::CROSSING_LIST;
+use crate::{Watch, Work};
+use compare::tape::{event, Event, Tape};
+use guide::{read_list, Random};
+use samples::crossing_lists::CROSSINGS;
+
+/// Every list for N = 2 or 3: by steps of which none is idle, as one run, and then further steps.
+pub fn lists(watch: &mut Watch, n: usize, random: &mut Random) -> Work<()> {
+    watch.tally.reached = true;
+    for crossing in CROSSINGS.iter().filter(|crossing| crossing.n == n as u64) {
+        for home in 0..n {
+            let list = turned(crossing.list, home, n, random);
+            let mut image = fresh(n, home);
+            let tape = Tape::of(&list);
+            let room = 12 * records(&image, &tape);
+            watch.accepted(&Case::run(image.clone(), tape, room, 80))?;
+            for event in &list {
+                let answer = watch.accepted(&Case::step(image, event, 80))?;
+                assert_ne!(answer.word(0), Some(0), "no event of the list is idle: {}", crossing.list);
+                image = answer.image;
+            }
+            watch.tally.count_way(CROSSING_LIST);
+            steps(watch, image, 60, likely, random)?;
+        }
+    }
+    Ok(())
+}
+
+/// The events of a list `process.code ..` from home 0, for another home.
+fn turned(list: &str, home: usize, n: usize, random: &mut Random) -> Vec<Event> {
+    let turned = |(process, code): (u64, u64)| {
+        let message = if code == 0 { random.words() } else { 0 };
+        event((process as usize + home) % n, code as u8, message)
+    };
+    read_list(list).into_iter().map(turned).collect()
+}

@@ -1,0 +1,48 @@
+//! How much must be exercised, at the least, for the comparison to mean anything.
+
+use crate::refusals;
+use crate::tally::{Tally, CROSSINGS, CROSSING_LIST, OUTCOMES, WAYS};
+use compare::counts::Missing;
+use compare::watch::key;
+
+/// The least calls.
+const CALLS: u64 = 200_000;
+/// The least events.
+const EVENTS: u64 = 20_000_000;
+/// The least fills, and takes, for each of some N.
+const FILLS: u64 = 5_000;
+/// The least times that each outcome comes at a step.
+const OUTCOME: u64 = 2_000;
+/// The least times that a step meets each kind of crossing on a ring's way.
+const CROSSING: u64 = 1_000;
+/// The least lists of crossings that are replayed.
+const LISTS: u64 = 120;
+/// The least times that a step takes each way.
+const WAY: u64 = 60;
+/// The least refusals by each cause.
+const CAUSE: u64 = 60;
+
+/// What was exercised too little.
+pub fn missing(tally: &Tally) -> Missing {
+    let mut missing = Missing::default();
+    missing.least("calls", tally.calls, CALLS);
+    missing.least("events", tally.events, EVENTS);
+    missing.least("events that are not idle", tally.events - tally.idle, tally.events.div_ceil(3));
+    for n in [2, 8, 64] {
+        missing.least(&format!("fills at N {n}"), tally.fills.of(&n), FILLS);
+        missing.least(&format!("takes at N {n}"), tally.takes.of(&n), FILLS);
+    }
+    for n in 2..=64 {
+        missing.least(&format!("fills at N {n}"), tally.fills.of(&n), 1_000);
+    }
+    for (ways, due) in [(&OUTCOMES[..], OUTCOME), (&CROSSINGS[..], CROSSING), (&WAYS[..], WAY)] {
+        ways.iter().for_each(|way| missing.least(way, tally.ways.of(way), due));
+    }
+    missing.least(CROSSING_LIST, tally.ways.of(&CROSSING_LIST), LISTS);
+    for key in refusals::keys() {
+        missing.least(&key, tally.refusals.of(&key), CAUSE);
+    }
+    let too_long = key("run", 6, "too long");
+    missing.least(&too_long, tally.refusals.of(&too_long), 1);
+    missing
+}

@@ -1,0 +1,47 @@
+//! The planted faults: the same comparison with a plain implementation that is wrong in one thing must report it, and
+//! shrink what it reports to a case that can be read.
+
+use crate::case::{Call, Case};
+use crate::pieces::work;
+use compare::calls::{plain, PROVED};
+use compare::case::Case as _;
+use plain::FAULTS;
+
+/// The events of a case, equal ones in a row taken for one.
+fn distinct(case: &Case) -> usize {
+    match &case.call {
+        Call::Run { tape, .. } => tape.events().chunk_by(|a, b| a == b).count(),
+        _ => case.events(),
+    }
+}
+
+#[test]
+fn every_planted_fault_is_found_and_shrunk() {
+    let faulty = [
+        plain::<1>(),
+        plain::<2>(),
+        plain::<3>(),
+        plain::<4>(),
+        plain::<5>(),
+        plain::<6>(),
+        plain::<7>(),
+        plain::<8>(),
+        plain::<9>(),
+        plain::<10>(),
+        plain::<11>(),
+        plain::<12>(),
+        plain::<13>(),
+        plain::<14>(),
+    ];
+    assert_eq!(faulty.len(), FAULTS.len(), "every planted fault has its turn");
+    for (faulty, name) in faulty.into_iter().zip(FAULTS) {
+        let sides = [PROVED, faulty];
+        let (_, find) = work(sides, 1);
+        let find = find.unwrap_or_else(|| panic!("not found: {name}")).shrunk(&sides);
+        println!("found: {name}\n{find}");
+        let case = &find.found.case;
+        let least = if name.contains("37 processes") { 37 } else { 3 };
+        assert!(case.image.first().is_none_or(|n| *n <= least), "not shrunk to few processes: {name}\n{find}");
+        assert!(distinct(case) <= 3, "not shrunk to few events: {name}\n{find}");
+    }
+}

@@ -1,0 +1,69 @@
+//! Counts of what was exercised, and how much must be at the least.
+
+use crate::case::Case;
+use compare::case::Case as _;
+use compare::compare::Answer;
+use compare::counts::{Counts, Missing};
+use compare::damage::{event_causes, tape_causes};
+use compare::watch::{self, key};
+
+/// What was exercised.
+#[derive(Default)]
+pub struct Tally {
+    /// Calls.
+    pub calls: u64,
+    /// Events written and read.
+    pub events: u64,
+    /// Refusals, by call, number and cause.
+    refusals: Counts<String>,
+}
+
+impl watch::Tally for Tally {
+    type Case = Case;
+
+    fn count(&mut self, case: &Case, answer: &Answer) {
+        self.calls += 1;
+        if answer.number == 0 {
+            self.events += case.events() as u64;
+        }
+    }
+
+    fn count_refusal(&mut self, key: String) {
+        self.refusals.add(key, 1);
+    }
+}
+
+impl Tally {
+    /// What was exercised too little.
+    pub fn missing(&self) -> Missing {
+        let mut missing = Missing::default();
+        missing.least("events", self.events, 8_000_000);
+        let mut least = |call: &str, number: u64, cause: &str, least: u64| {
+            let key = key(call, number, cause);
+            missing.least(&key, self.refusals.of(&key), least);
+        };
+        least("fresh", 2, "home not below N", 500);
+        least("fresh", 2, "home not below N, no output", 500);
+        least("fresh", 3, "image buffer short", 10_000);
+        least("write", 6, "empty", 63);
+        least("write", 6, "ragged", 400);
+        least("write", 6, "ragged, with wrong events", 400);
+        for call in ["fresh", "write", "read"] {
+            least(call, 1, "N outside 2 to 64", 20);
+            least(call, 10, "result under 80 bytes", 5_000);
+        }
+        for call in ["write", "read"] {
+            least(call, 6, "too long", 1);
+            for cause in ["a byte short", "a block or event short", "no bytes"] {
+                least(call, 10, cause, 63);
+            }
+        }
+        for cause in event_causes() {
+            for at in ["first", "middle", "last"] {
+                least("write", 5, &format!("{}, {at} event", cause.name), 63);
+            }
+        }
+        tape_causes().iter().for_each(|cause| least("read", cause.number, &cause.name, 63));
+        missing
+    }
+}

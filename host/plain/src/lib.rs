@@ -1,0 +1,169 @@
+//! The ring of processes with one envelope, a second time: plain Rust written from document 01
+//! alone.
+//!
+//! It is the other side of the differential tests, the baseline of the benchmark, and says what
+//! ringrun must print for its samples. It shares nothing with the proved library, has no `unsafe`, and
+//! works in place on the lent bytes, without a heap but for ringrun's text. One submodule an idea:
+//!
+//! - `answer`: refusals ("Where a call is turned down") and the result slice ("The tape"),
+//! - `image`: the bits of an image, soundness, the fresh ring, stopped ("The image", "Stopped"),
+//! - `event`: one event, tested and performed ("The eight events"),
+//! - `put`: what put does (event 7),
+//! - `tape`: the blocks, their check and test, writer and reader ("The tape"),
+//! - `run`: a tape of events with its ledger and counts ("The run"),
+//! - `report`: what the program ringrun prints ("The tape").
+//!
+//! Every call is generic over a planted fault. `FAULT = 0` is the right one, and there the code of
+//! the faults vanishes when it is compiled; the others exist to show that the tests find them.
+
+#![forbid(unsafe_code)]
+
+mod answer;
+mod event;
+mod image;
+mod put;
+mod report;
+mod run;
+mod tape;
+
+use answer::{answer, Refusal, LEAST_RESULT, OUTPUT_TOO_SHORT};
+use image::Ring;
+
+/// The planted faults 1 to 14, in their order.
+pub const FAULTS: [&str; 14] = [
+    "the right of the last of 37 processes is process 1",
+    "an absorbed request does not set 'asked itself'",
+    "put clears after it has forwarded",
+    "forward sets no marker where the envelope stays",
+    "a process already marked is counted once more",
+    "refusal 8 is tested before refusal 7",
+    "an idle event that ends the tape is not counted",
+    "the ledger's event number wraps at 65,536",
+    "an image with mark empty in stage 6 is sound",
+    "the result is zeroed up to byte 72 only",
+    "a ledger is refused unless it has room for one record more",
+    "refusal 5 in a tape is placed by its slot alone",
+    "a check whose upper half is 65,535 passes for 0",
+    "stopped overlooks a request for empty at the last process",
+];
+
+/// No fault, but another way to count the marks: in two sets, as document 01 names the form. The benchmark has it as a
+/// second baseline.
+pub const SETS: u8 = 255;
+
+/// Step: performs one event. The result gets the outcome and its message.
+pub fn ring_step<const FAULT: u8>(image: &mut [u8], event: &[u8], result: &mut [u8]) -> u64 {
+    let done = step::<FAULT>(image, event, result.len());
+    answer::<FAULT>(result, done)
+}
+
+fn step<const FAULT: u8>(image: &mut [u8], event: &[u8], result: usize) -> Result<[u64; 8], Refusal> {
+    let mut ring = Ring::sound::<FAULT>(image)?;
+    let event = event::single(ring.envelope.size(), event)?;
+    room_for_result(result)?;
+    let outcome = event::perform::<FAULT>(&mut ring.envelope, ring.records, event);
+    ring.envelope.store(ring.header);
+    Ok([outcome.kind, outcome.message, 0, 0, 0, 0, 0, 0])
+}
+
+/// Run: performs every event of a tape. The result gets the eight counts.
+pub fn ring_run<const FAULT: u8>(image: &mut [u8], tape: &[u8], ledger: &mut [u8], result: &mut [u8]) -> u64 {
+    let done = whole_run::<FAULT>(image, tape, ledger, result.len());
+    answer::<FAULT>(result, done)
+}
+
+fn whole_run<const FAULT: u8>(
+    image: &mut [u8],
+    tape: &[u8],
+    ledger: &mut [u8],
+    result: usize,
+) -> Result<[u64; 8], Refusal> {
+    let ring = Ring::sound::<FAULT>(image)?;
+    let tape = tape::tested::<FAULT>(ring.envelope.size(), tape)?;
+    room_for_result(result)?;
+    run::run::<FAULT>(ring, tape, ledger)
+}
+
+/// Stopped: 1 if no event of the codes 2 to 7 is possible, else 0.
+pub fn ring_stopped<const FAULT: u8>(image: &[u8], result: &mut [u8]) -> u64 {
+    let done = stopped::<FAULT>(image, result.len());
+    answer::<FAULT>(result, done)
+}
+
+fn stopped<const FAULT: u8>(image: &[u8], result: usize) -> Result<[u64; 8], Refusal> {
+    let (_, records) = image::sound::<FAULT>(image)?;
+    room_for_result(result)?;
+    let yes = u64::from(image::stopped::<FAULT>(records));
+    Ok([yes, 0, 0, 0, 0, 0, 0, 0])
+}
+
+/// Fresh ring: all zero but N and have at the home process. The result gets zeros.
+pub fn ring_fresh<const FAULT: u8>(n: u64, home: u64, image: &mut [u8], result: &mut [u8]) -> u64 {
+    let done = fresh(n, home, image, result.len());
+    answer::<FAULT>(result, done)
+}
+
+fn fresh(n: u64, home: u64, image: &mut [u8], result: usize) -> Result<[u64; 8], Refusal> {
+    let size = size_argument(n)?;
+    if home >= n {
+        return Err(Refusal { number: 2, place: 0 });
+    }
+    let image = image::buffer_for(size, image)?;
+    room_for_result(result)?;
+    image::fill_fresh(size, home as usize, image);
+    Ok([0; 8])
+}
+
+/// Writer: turns a list of events for N into a tape. The result gets the bytes filled.
+pub fn ring_write<const FAULT: u8>(n: u64, list: &[u8], output: &mut [u8], result: &mut [u8]) -> u64 {
+    let done = write::<FAULT>(n, list, output, result.len());
+    answer::<FAULT>(result, done)
+}
+
+fn write<const FAULT: u8>(n: u64, list: &[u8], output: &mut [u8], result: usize) -> Result<[u64; 8], Refusal> {
+    let list = tape::tested_list(size_argument(n)?, list)?;
+    let output = tape::output_for_tape(list, output)?;
+    room_for_result(result)?;
+    tape::write::<FAULT>(list, output);
+    Ok([output.len() as u64 * 512, 0, 0, 0, 0, 0, 0, 0])
+}
+
+/// Reader: turns a tape into its list of events. The result gets the bytes filled.
+pub fn ring_read<const FAULT: u8>(n: u64, tape: &[u8], output: &mut [u8], result: &mut [u8]) -> u64 {
+    let done = read::<FAULT>(n, tape, output, result.len());
+    answer::<FAULT>(result, done)
+}
+
+fn read<const FAULT: u8>(n: u64, tape: &[u8], output: &mut [u8], result: usize) -> Result<[u64; 8], Refusal> {
+    let tape = tape::tested::<FAULT>(size_argument(n)?, tape)?;
+    let output = tape::output_for_list(tape, output)?;
+    room_for_result(result)?;
+    tape::read(tape, output);
+    Ok([output.len() as u64, 0, 0, 0, 0, 0, 0, 0])
+}
+
+/// The text that the program ringrun prints for its whole standard input.
+pub fn report(input: &[u8]) -> Vec<u8> {
+    report_with::<0>(input)
+}
+
+/// The same with a planted fault.
+pub fn report_with<const FAULT: u8>(input: &[u8]) -> Vec<u8> {
+    report::text::<FAULT>(input)
+}
+
+/// Refusal 1: N as an argument.
+fn size_argument(n: u64) -> Result<usize, Refusal> {
+    match n {
+        image::LEAST_SIZE..=image::MOST_SIZE => Ok(n as usize),
+        _ => Err(Refusal { number: 1, place: 0 }),
+    }
+}
+
+/// Refusal 10 for a result slice that is too short; it comes after all other tests.
+fn room_for_result(length: usize) -> Result<(), Refusal> {
+    if length < LEAST_RESULT {
+        return Err(OUTPUT_TOO_SHORT);
+    }
+    Ok(())
+}

@@ -1,0 +1,41 @@
+//! Every planted fault that a ringrun could have shows in some sample.
+
+use plain::report_with;
+use samples::all;
+
+/// The samples whose text differs with a fault.
+fn shown<const FAULT: u8>() -> Vec<String> {
+    let samples = all().into_iter();
+    let differing = samples.filter(|sample| report_with::<FAULT>(&sample.input) != report_with::<0>(&sample.input));
+    differing.map(|sample| sample.name).collect()
+}
+
+/// Left out are those that no ringrun can show: without 4's marker the next forward, which still has
+/// the asked bit, sets it all the same; the tapes are too short for 8; from a fresh ring no image is
+/// unsound as in 9; no result slice is printed (10); and the ledger has room for all (11).
+#[test]
+fn every_planted_fault_shows() {
+    let found = [
+        (1, shown::<1>()),
+        (2, shown::<2>()),
+        (3, shown::<3>()),
+        (5, shown::<5>()),
+        (6, shown::<6>()),
+        (7, shown::<7>()),
+        (12, shown::<12>()),
+        (13, shown::<13>()),
+        (14, shown::<14>()),
+    ];
+    for (fault, samples) in found {
+        assert!(!samples.is_empty(), "planted fault {fault} shows nowhere");
+    }
+}
+
+/// The lists for a rule show that it isn't kept.
+#[test]
+fn lists_for_a_rule_show_its_fault() {
+    let both = ["rule-absorbed-n2", "rule-absorbed-n3"].map(String::from);
+    assert!(both.iter().all(|name| shown::<2>().contains(name)));
+    assert!(shown::<3>().contains(&"rule-clear-then-forward-n2".into()));
+    assert!(shown::<5>().contains(&"rule-mark-once-n3".into()));
+}

@@ -1,0 +1,221 @@
+//! The six functions of the proved library, as they are: numbers and byte slices.
+//!
+//! What is returned is the refusal's number, and 0 if there is none. A result slice of at least 80 bytes gets ten
+//! 64-bit little-endian words at its start: outcome and message of a step, the eight counts of a run, 1 or 0 for a ring
+//! that is stopped or isn't, the bytes that the writer or the reader filled, or the place of a refusal, and 0 in the
+//! words behind. In a shorter one nothing is written, and a call that is not refused otherwise is then refused with 10.
+//! [`crate::step`], [`crate::run`] and [`crate::stopped`] say the same with types.
+//!
+//! This is the one module of the package with `unsafe`. It is sound because a slice passes as its own pointer and
+//! length, because the borrows keep the slices of a call apart and alive until it returns, and because the functions,
+//! which are proved for all bytes and lengths, touch nothing else and write only to what is passed as `&mut`.
+#![allow(unsafe_code)]
+
+/// The functions as `libring_host.a` and `libring_tools.a` export them: a slice is a pointer, then a length.
+mod exported {
+    extern "C" {
+        pub fn ring_step(
+            image: *mut u8,
+            image_len: usize,
+            event: *const u8,
+            event_len: usize,
+            result: *mut u8,
+            result_len: usize,
+        ) -> u64;
+
+        pub fn ring_run(
+            image: *mut u8,
+            image_len: usize,
+            tape: *const u8,
+            tape_len: usize,
+            ledger: *mut u8,
+            ledger_len: usize,
+            result: *mut u8,
+            result_len: usize,
+        ) -> u64;
+
+        pub fn ring_stopped(image: *const u8, image_len: usize, result: *mut u8, result_len: usize) -> u64;
+
+        pub fn ring_fresh(
+            n: u64,
+            home: u64,
+            image: *mut u8,
+            image_len: usize,
+            result: *mut u8,
+            result_len: usize,
+        ) -> u64;
+
+        pub fn ring_write(
+            n: u64,
+            list: *const u8,
+            list_len: usize,
+            output: *mut u8,
+            output_len: usize,
+            result: *mut u8,
+            result_len: usize,
+        ) -> u64;
+
+        pub fn ring_read(
+            n: u64,
+            tape: *const u8,
+            tape_len: usize,
+            output: *mut u8,
+            output_len: usize,
+            result: *mut u8,
+            result_len: usize,
+        ) -> u64;
+    }
+}
+
+/// Performs one event on an image. Result words: the outcome (0 idle, 1 moved, 2 fill, 3 take, 4 sent, 5 got) and the
+/// message; on a refusal the place.
+///
+/// ```
+/// use vengloaz::raw;
+///
+/// let mut image = [0; 32];
+/// image[0] = 2; // N
+/// image[17] = 1; // process 0 has the envelope
+/// let mut result = [0xff; 80];
+/// assert_eq!(raw::ring_step(&mut image, &[1, 0, 0, 0, 7, 0, 0, 0], &mut result), 0);
+/// assert_eq!(result[0], 1); // moved
+/// assert_eq!(image[24], 1); // process 1: send told
+/// assert_eq!(image[28], 7); // its note
+/// assert_eq!(raw::ring_step(&mut image, &[2, 0, 0, 0, 7, 0, 0, 0], &mut result), 5);
+/// ```
+pub fn ring_step(image: &mut [u8], event: &[u8], result: &mut [u8]) -> u64 {
+    // SAFETY: see the module's comment.
+    unsafe {
+        exported::ring_step(
+            image.as_mut_ptr(),
+            image.len(),
+            event.as_ptr(),
+            event.len(),
+            result.as_mut_ptr(),
+            result.len(),
+        )
+    }
+}
+
+/// Performs every event of a tape and writes the ledger. Result words: puts, gets, fills, takes, sent, got, idle,
+/// records; on a refusal the place.
+///
+/// ```
+/// use vengloaz::raw;
+///
+/// let mut image = [0; 32];
+/// image[0] = 2; // N
+/// image[17] = 1; // process 0 has the envelope
+/// let mut result = [0xff; 80];
+/// assert_eq!(raw::ring_run(&mut image, &[0; 511], &mut [], &mut result), 6);
+/// assert_eq!(result, [0; 80]); // a ragged tape has place 0
+/// ```
+pub fn ring_run(image: &mut [u8], tape: &[u8], ledger: &mut [u8], result: &mut [u8]) -> u64 {
+    // SAFETY: see the module's comment.
+    unsafe {
+        exported::ring_run(
+            image.as_mut_ptr(),
+            image.len(),
+            tape.as_ptr(),
+            tape.len(),
+            ledger.as_mut_ptr(),
+            ledger.len(),
+            result.as_mut_ptr(),
+            result.len(),
+        )
+    }
+}
+
+/// Tells whether no event of the codes 2 to 7 is possible. Result word: 1 for yes, 0 for no; on a refusal the place.
+///
+/// ```
+/// use vengloaz::raw;
+///
+/// let mut image = [0; 32];
+/// image[0] = 2; // N
+/// image[17] = 1; // process 0 has the envelope
+/// let mut result = [0xff; 80];
+/// assert_eq!(raw::ring_stopped(&image, &mut result), 0);
+/// assert_eq!(result[0], 1);
+/// assert_eq!(raw::ring_stopped(&image, &mut result[..79]), 10);
+/// ```
+pub fn ring_stopped(image: &[u8], result: &mut [u8]) -> u64 {
+    // SAFETY: see the module's comment.
+    unsafe { exported::ring_stopped(image.as_ptr(), image.len(), result.as_mut_ptr(), result.len()) }
+}
+
+/// Writes the fresh ring of N processes, with the envelope at home, to the start of an image. Result words: all 0, as
+/// the place of a refusal is.
+///
+/// ```
+/// use vengloaz::raw;
+///
+/// let mut image = [0xff; 33];
+/// let mut result = [0xff; 80];
+/// assert_eq!(raw::ring_fresh(2, 0, &mut image, &mut result), 0);
+/// assert_eq!((image[0], image[17]), (2, 1)); // N, and process 0 has the envelope
+/// assert_eq!(image[32], 0xff); // further bytes are kept
+/// assert_eq!(raw::ring_fresh(2, 2, &mut image, &mut result), 2);
+/// ```
+pub fn ring_fresh(n: u64, home: u64, image: &mut [u8], result: &mut [u8]) -> u64 {
+    // SAFETY: see the module's comment.
+    unsafe { exported::ring_fresh(n, home, image.as_mut_ptr(), image.len(), result.as_mut_ptr(), result.len()) }
+}
+
+/// Writes the tape of a list of events, 8 bytes each, for N processes to the start of an output: 512 bytes for each 63
+/// events or part of them. Result word: the bytes filled; on a refusal the place.
+///
+/// ```
+/// use vengloaz::raw;
+///
+/// let mut tape = [0xff; 512];
+/// let mut result = [0xff; 80];
+/// assert_eq!(raw::ring_write(2, &[1, 0, 0, 0, 7, 0, 0, 0], &mut tape, &mut result), 0);
+/// assert_eq!(result[..2], [0, 2]); // 512 bytes
+/// assert_eq!(tape[8..17], [1, 0, 0, 0, 7, 0, 0, 0, 0]); // the event in slot 0
+/// assert_eq!(raw::ring_write(2, &[1, 0, 0, 0, 7, 0, 0, 0], &mut tape[1..], &mut result), 10);
+/// ```
+pub fn ring_write(n: u64, list: &[u8], output: &mut [u8], result: &mut [u8]) -> u64 {
+    // SAFETY: see the module's comment.
+    unsafe {
+        exported::ring_write(
+            n,
+            list.as_ptr(),
+            list.len(),
+            output.as_mut_ptr(),
+            output.len(),
+            result.as_mut_ptr(),
+            result.len(),
+        )
+    }
+}
+
+/// Writes the list of events of a tape for N processes to the start of an output: 8 bytes an event. Result word: the
+/// bytes filled; on a refusal the place.
+///
+/// ```
+/// use vengloaz::raw;
+///
+/// let event = [1, 0, 0, 0, 7, 0, 0, 0];
+/// let (mut tape, mut list) = ([0; 512], [0; 8]);
+/// let mut result = [0xff; 80];
+/// assert_eq!(raw::ring_write(2, &event, &mut tape, &mut result), 0);
+/// assert_eq!(raw::ring_read(2, &tape, &mut list, &mut result), 0);
+/// assert_eq!((result[0], list), (8, event));
+/// tape[8] = 0;
+/// assert_eq!(raw::ring_read(2, &tape, &mut list, &mut result), 7); // the check differs
+/// ```
+pub fn ring_read(n: u64, tape: &[u8], output: &mut [u8], result: &mut [u8]) -> u64 {
+    // SAFETY: see the module's comment.
+    unsafe {
+        exported::ring_read(
+            n,
+            tape.as_ptr(),
+            tape.len(),
+            output.as_mut_ptr(),
+            output.len(),
+            result.as_mut_ptr(),
+            result.len(),
+        )
+    }
+}
