@@ -1,5 +1,5 @@
 //! The six calls, as the proved library and as the plain implementation make them: behind the same function pointers,
-//! so that none is inlined.
+//! so that none is inlined, and in statics, so that tests, benchmark and count have the same compiled code of plain.
 
 use vengloaz::raw;
 
@@ -26,7 +26,7 @@ pub struct Calls {
 }
 
 /// The proved library.
-pub const PROVED: Calls = Calls {
+pub static PROVED: Calls = Calls {
     name: "proved",
     step: raw::ring_step,
     run: raw::ring_run,
@@ -37,10 +37,10 @@ pub const PROVED: Calls = Calls {
 };
 
 /// The plain implementation.
-pub const PLAIN: Calls = plain::<0>();
+pub static PLAIN: Calls = plain::<0>();
 
 /// Plain once more, with the marked processes gathered in two sets, as the proved library has to.
-pub const SETS: Calls = plain::<{ plain::SETS }>();
+pub static SETS: Calls = plain::<{ plain::SETS }>();
 
 /// The plain implementation, right (0) or with a fault planted.
 pub const fn plain<const FAULT: u8>() -> Calls {

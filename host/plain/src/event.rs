@@ -54,6 +54,7 @@ pub fn all_right(size: usize, events: &[[u8; 8]]) -> bool {
 }
 
 /// A single event, or refusal 5 at 0.
+#[inline]
 pub fn single(size: usize, bytes: &[u8]) -> Result<u64, Refusal> {
     const REFUSED: Refusal = Refusal { number: 5, place: 0 };
     let bytes: [u8; 8] = bytes.try_into().map_err(|_| REFUSED)?;

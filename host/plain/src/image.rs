@@ -45,6 +45,7 @@ impl Envelope {
     }
 
     /// Writes the envelope back into its header.
+    #[inline]
     pub fn store(&self, header: &mut [u8; 16]) {
         header[..8].copy_from_slice(&self.word.to_le_bytes());
         header[8..].copy_from_slice(&self.message.to_le_bytes());

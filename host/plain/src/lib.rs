@@ -3,7 +3,7 @@
 //!
 //! It is the other side of the differential tests, the baseline of the benchmark, and says what
 //! ringrun must print for its samples. It shares nothing with the proved library, has no `unsafe`, and
-//! works in place on the lent bytes, without a heap but for ringrun's text. One submodule an idea:
+//! works in place on the lent bytes, without a heap but for ringrun's text. One module an idea:
 //!
 //! - `answer`: refusals ("Where a call is turned down") and the result slice ("The tape"),
 //! - `image`: the bits of an image, soundness, the fresh ring, stopped ("The image", "Stopped"),
@@ -14,7 +14,9 @@
 //! - `report`: what the program ringrun prints ("The tape").
 //!
 //! Every call is generic over a planted fault. `FAULT = 0` is the right one, and there the code of
-//! the faults vanishes when it is compiled; the others exist to show that the tests find them.
+//! the faults vanishes when it is compiled; the others exist to show that the tests find them. So the
+//! calls are compiled in the package that makes them, and what is not generic is `#[inline]` where
+//! it would else stay a call into this one.
 
 #![forbid(unsafe_code)]
 

@@ -107,6 +107,7 @@ fn check_right<const FAULT: u8>(block: &Block) -> bool {
     written == right || FAULT == 13 && right >> 16 == 0 && written == right | 0xFFFF_0000
 }
 
+#[inline]
 fn header_right(block: &Block, position: usize, last: bool) -> bool {
     let number = usize::from(u16::from_le_bytes([block[0], block[1]]));
     let count = count_of(block);

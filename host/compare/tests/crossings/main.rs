@@ -7,7 +7,7 @@ use compare::words::in_words;
 use samples::crossing_lists::{Crossing, Ended, Way, CROSSINGS, EMPTY, ENTRY_10, FULL, MIRROR, OTHER_HOMES};
 use std::collections::BTreeSet;
 
-const SIDES: [Calls; 2] = [PROVED, PLAIN];
+static SIDES: [&Calls; 2] = [&PROVED, &PLAIN];
 
 /// The image after some events from the fresh ring with home 0, none of them refused or idle.
 fn after(side: &Calls, n: u64, events: &[[u8; 8]]) -> Vec<u8> {
@@ -66,7 +66,7 @@ fn check(side: &Calls, crossing: &Crossing) {
 
 #[test]
 fn every_list_ends_in_its_crossing() {
-    for side in &SIDES {
+    for side in SIDES {
         CROSSINGS.iter().for_each(|crossing| check(side, crossing));
     }
 }
@@ -105,7 +105,7 @@ fn ended(side: &Calls, known: &Ended) -> Vec<u8> {
 
 /// Lists that end in their states, none of which is stopped.
 fn end_moving(lists: &[Ended]) {
-    for side in &SIDES {
+    for side in SIDES {
         lists.iter().for_each(|known| assert!(!stopped(side, &ended(side, known)), "{}: {}", side.name, known.list));
     }
 }
@@ -125,7 +125,7 @@ fn an_empty_envelope_goes_round() {
 /// The fresh ring with another home, byte for byte.
 #[test]
 fn the_envelope_comes_to_rest_at_every_home() {
-    for side in &SIDES {
+    for side in SIDES {
         for known in &OTHER_HOMES {
             let image = ended(side, known);
             let fresh = |home: &u64| guide::fresh(known.n, *home) == image;
