@@ -1,5 +1,7 @@
 //! Makes a case on which two sides differ as small as it can, while they still differ on it.
 
+use std::iter;
+
 use crate::case::Case;
 
 /// What a case could become, one smaller case after another.
@@ -37,4 +39,16 @@ pub fn shrink<C: Case>(mut case: C, differ: impl Fn(&C) -> bool) -> C {
             return case;
         }
     }
+}
+
+/// A copy with a change made to it.
+pub fn changed<T: Clone>(value: &T, change: impl FnOnce(&mut T)) -> T {
+    let mut value = value.clone();
+    change(&mut value);
+    value
+}
+
+/// A number, its half, its quarter, and so on, without 0.
+pub fn halvings(number: usize) -> impl Iterator<Item = usize> {
+    iter::successors(Some(number), |number| Some(number / 2)).take_while(|number| *number > 0)
 }

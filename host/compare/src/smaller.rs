@@ -3,22 +3,21 @@
 use std::iter;
 
 use crate::damage::small_blocks_with_wrong_half;
+use crate::shrink::changed;
 use crate::tape::{Block, Seal, Tape, SLOTS};
 
 /// Tapes without a tail, with a block fewer, or with a smaller block.
 pub fn smaller_tapes(tape: &Tape) -> impl Iterator<Item = Tape> + '_ {
-    let changed = |change: &dyn Fn(&mut Tape)| {
-        let mut tape = tape.clone();
-        change(&mut tape);
-        tape
-    };
-    let without_tail = iter::once_with(move || changed(&|tape| tape.tail.clear()));
+    let without_tail = iter::once_with(move || changed(tape, |tape| tape.tail.clear()));
     let places = 0..tape.blocks.len();
-    let fewer = places.clone().rev().flat_map(|place| [false, true].map(|renumbered| (place, renumbered)));
-    let fewer = fewer.map(move |(place, renumbered)| changed(&|tape| tape.drop_block(place, renumbered)));
-    let blocks =
-        places.flat_map(|place| smaller_blocks(&tape.blocks[place], place).into_iter().map(move |b| (place, b)));
-    let smaller = blocks.map(move |(place, block)| changed(&|tape| tape.blocks[place] = block.clone()));
+    let fewer = places
+        .clone()
+        .rev()
+        .flat_map(|place| [false, true].map(|renumbered| changed(tape, |tape| tape.drop_block(place, renumbered))));
+    let smaller = places.flat_map(move |place| {
+        let blocks = smaller_blocks(&tape.blocks[place], place).into_iter();
+        blocks.map(move |block| changed(tape, |tape| tape.blocks[place] = block))
+    });
     without_tail.chain(fewer).chain(smaller)
 }
 
@@ -30,17 +29,11 @@ fn smaller_blocks(block: &Block, place: usize) -> Vec<Block> {
     if used.len() > 1 {
         blocks.extend(small_blocks_with_wrong_half());
     }
-    let mut add = |change: &dyn Fn(&mut Block)| {
-        let mut block = block.clone();
-        change(&mut block);
-        blocks.push(block);
-    };
-    add(&|block| block.seal = Seal::Right);
-    add(&|block| block.set_number(place as u16));
-    add(&|block| block.set_count(1));
+    blocks.push(changed(block, |block| block.seal = Seal::Right));
+    blocks.push(changed(block, |block| block.set_number(place as u16)));
+    blocks.push(changed(block, |block| block.set_count(1)));
     let (first, last) = used.split_at(used.len() / 2);
-    for slots in [&used[..], first, last].into_iter().chain(used.chunks(1)) {
-        add(&|block| slots.iter().for_each(|slot| block.set_slot(*slot, [0; 8])));
-    }
+    let emptied = [&used[..], first, last].into_iter().chain(used.chunks(1));
+    blocks.extend(emptied.map(|slots| changed(block, |block| block.empty(slots))));
     blocks
 }

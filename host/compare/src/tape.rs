@@ -79,6 +79,11 @@ impl Block {
         self.bytes[8 + 8 * slot..16 + 8 * slot].copy_from_slice(&event);
     }
 
+    /// Empties these slots.
+    pub fn empty(&mut self, slots: &[usize]) {
+        slots.iter().for_each(|slot| self.set_slot(*slot, [0; 8]));
+    }
+
     /// The right check: two sums over the words of bytes 0 to 3 and 8 to 511.
     pub fn right_check(&self) -> u32 {
         let (mut a, mut b) = (0u32, 0u32);

@@ -144,8 +144,8 @@ pub fn ring_stopped(image: &[u8], result: &mut [u8]) -> u64 {
     unsafe { exported::ring_stopped(image.as_ptr(), image.len(), result.as_mut_ptr(), result.len()) }
 }
 
-/// Writes the fresh ring of N processes, with the envelope at home, to the start of an image. Result words: all 0, as
-/// the place of a refusal is.
+/// Writes the fresh ring of N processes, with the envelope at process home, to the start of an image buffer. Result
+/// words: 0; on a refusal the place, which is 0 too.
 ///
 /// ```
 /// use vengloaz::raw;

@@ -7,7 +7,7 @@ use crate::edits::{
     change_event, change_tape, idle_event, performed, records, set_events, set_ledger, without_process, written,
 };
 use crate::image::{at, recount, size, ARRIVING, HAVE};
-use compare::shrink::{Smaller, Way};
+use compare::shrink::{changed, halvings, Smaller, Way};
 use compare::smaller::smaller_tapes;
 use compare::tape::Event;
 
@@ -25,13 +25,6 @@ pub const WAYS: [Way<Case>; 10] = [
     cleared_images,
 ];
 
-/// The case with a change made to it.
-fn changed(case: &Case, change: impl FnOnce(&mut Case)) -> Case {
-    let mut case = case.clone();
-    change(&mut case);
-    case
-}
-
 /// The case with this image and these events on its tape, with its ledger or else with one shorter by the records that
 /// are gone.
 fn with_events<'a>(case: &'a Case, image: Vec<u8>, events: &[Event]) -> impl Iterator<Item = Case> + 'a {
@@ -45,11 +38,6 @@ fn with_events<'a>(case: &'a Case, image: Vec<u8>, events: &[Event]) -> impl Ite
         changed(&shorter, |shorter| set_ledger(shorter, case.ledger().saturating_sub(12 * gone)))
     });
     iter::once(kept).chain(shorter)
-}
-
-/// A number, its half, its quarter, and so on, without 0.
-fn halvings(number: usize) -> impl Iterator<Item = usize> {
-    iter::successors(Some(number), |number| Some(number / 2)).take_while(|number| *number > 0)
 }
 
 /// First events performed beforehand.
@@ -135,11 +123,7 @@ fn simpler_events(case: &Case) -> Smaller<'_, Case> {
         return Box::new(zeros.chain(shorter));
     }
     let events = written(case);
-    let simpler = (0..events.len().min(100)).map(move |k| {
-        let mut events = events.clone();
-        events[k][4..].fill(0);
-        events
-    });
+    let simpler = (0..events.len().min(100)).map(move |k| changed(&events, |events| events[k][4..].fill(0)));
     Box::new(simpler.flat_map(|events| with_events(case, case.image.clone(), &events)))
 }
 
@@ -153,25 +137,16 @@ fn fewer_processes(case: &Case) -> Smaller<'_, Case> {
 fn cleared_images(case: &Case) -> Smaller<'_, Case> {
     let Some(n) = size(&case.image) else { return Box::new(iter::empty()) };
     let image = &case.image;
-    let cleared = |change: &dyn Fn(&mut [u8])| {
-        let mut image = image.clone();
-        change(&mut image);
-        image
-    };
     let records = (0..n).map(move |process| {
-        cleared(&|image| {
+        changed(image, |image| {
             let flag = image[at(process) + 1] & (HAVE | ARRIVING);
             image[at(process)..at(process + 1)].copy_from_slice(&[0, flag, 0, 0, 0, 0, 0, 0]);
         })
     });
     let masks = || iter::once(0).chain((0..8).map(|bit| !(1 << bit)));
     let bits = (1..image.len()).flat_map(move |byte| masks().map(move |mask: u8| (byte, mask)));
-    let bits = bits.map(move |(byte, mask)| cleared(&|image| image[byte] &= mask));
+    let bits = bits.map(move |(byte, mask)| changed(image, |image| image[byte] &= mask));
     let other = records.chain(bits).filter(move |cleared| cleared != image);
-    let counted = other.flat_map(move |image| {
-        let mut counted = image.clone();
-        recount(&mut counted[..at(n)]);
-        [counted, image]
-    });
+    let counted = other.flat_map(move |image| [changed(&image, |image| recount(&mut image[..at(n)])), image]);
     Box::new(counted.map(|image| Case { image, ..case.clone() }))
 }
