@@ -20,10 +20,10 @@ use crate::{word, RESULT};
 /// ```
 #[derive(Clone, Copy, Debug, PartialEq, Eq, Hash)]
 pub enum Refusal {
-    /// 1: N, given as a number, below 2 or above 64. This package's calls are given no N: there a
-    /// wrong one makes the image unsound.
+    /// 1: N, given as a number, below 2 or above 64. Only calls of [`crate::raw`] are given one: to
+    /// the others a wrong N makes the image unsound.
     RingSize,
-    /// 2: home not below N. Home isn't an argument of this package's calls.
+    /// 2: home not below N. Only [`crate::raw::ring_fresh`] is given a home.
     Home,
     /// 3: the image buffer is under 16 bytes, or under 16 + 8N.
     ImageShort,
