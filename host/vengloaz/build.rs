@@ -18,7 +18,7 @@ fn main() {
         let archive = directory.join(format!("lib{name}.a"));
         println!("cargo::rerun-if-changed={}", archive.display());
         if !archive.is_file() {
-            give_up(name, &archive);
+            give_up(&archive);
         }
         println!("cargo::rustc-link-lib=static={name}");
     }
@@ -36,9 +36,10 @@ fn directory() -> PathBuf {
 }
 
 /// Ends the build with what to do.
-fn give_up(name: &str, archive: &Path) -> ! {
+fn give_up(archive: &Path) -> ! {
+    let made = ARCHIVES.map(|name| format!("`rt staticlib {name}`")).join(" and ");
     println!("cargo::error=the proved library is not built: there is no {}", archive.display());
-    println!("cargo::error=run `rt staticlib {name}` (or `make test`) in the repository's root, then try again");
-    println!("cargo::error=or set RING_HOST_DIR to the directory that has lib{name}.a");
+    println!("cargo::error=run {made} (or `make test`) in the repository's root, then try again");
+    println!("cargo::error=or set RING_HOST_DIR to the directory that has both archives");
     process::exit(1);
 }
