@@ -52,7 +52,7 @@ pub fn all() -> Vec<Sample> {
     groups.into_iter().flat_map(|samples| samples()).collect()
 }
 
-/// The folder with the file of each.
+/// The folder with their files.
 pub fn folder() -> PathBuf {
     PathBuf::from(concat!(env!("CARGO_MANIFEST_DIR"), "/../../samples"))
 }
