@@ -19,6 +19,11 @@ pub bit-on : (b : Bool) → 1 ≤ bit b → b ≡ true
 bit-on true some = refl
 bit-on false some = absurd (omega arith)
 
+-- and one that is 0 is off
+pub bit-off : (b : Bool) → bit b ≡ 0 → b ≡ false
+bit-off true none = absurd (omega arith)
+bit-off false none = refl
+
 -- a bit as a number, and back
 pub bit-is : (b : Bool) (x : ℕ) → x ≡ bit b → eqb x 1 ≡ b
 bit-is true x e = rw e

@@ -11,7 +11,7 @@ use Rattle.machine.specs.Lists.{all}
 use Rattle.machine.specs.Fields.{Status, full, empty, blank}
 use Rattle.machine.specs.Image.{State}
 use Rattle.machine.specs.Stages.{lastStage}
-use Rattle.machine.specs.Sound.{markFits, noteFits, stageFits, stagesFit, restFits}
+use Rattle.machine.specs.Sound.{markFits, noteFits, stagesFit, restFits}
 use Rattle.machine.specs.Events.{processAt}
 use Rattle.machine.proofs.Lists.{and-first, and-second, and-both, all-at}
 use Rattle.machine.proofs.Sound.{RestFacts, rest-facts}
@@ -66,7 +66,7 @@ fits-at st f i h =
       range = and-first a b to-b;
       marked = marks p (and-second a b to-b) (and-second (a && b) c to-c);
       note-fits = and-second (a && b && c) (noteFits p) own;
-      has = all-at (stageFits (st .envelope .full)) (st .processes) blank (f .rest .stages) i h;
+      has = all-at _ (st .processes) blank (f .rest .stages) i h;
     }
   where
     marks : (p : Process) → markFits full p ≡ true → markFits empty p ≡ true → (s : Status) → markFits s p ≡ true

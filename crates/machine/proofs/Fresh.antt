@@ -136,7 +136,7 @@ fresh-fits n k h =
     rw (
       all-fresh processFits n k refl refl,
       fresh-places n k h,
-      all-fresh (stageFits empty) n k refl refl,
+      all-fresh (λ p. stageFits empty (p .have) (p .stage)) n k refl refl,
       fresh-marks full n k,
       fresh-marks empty n k,
     )

@@ -17,7 +17,7 @@ use Rattle.machine.specs.declared.Verdict.the-variants.{Fine}
 use Rattle.machine.specs.Ring.{imageLength}
 use Rattle.machine.specs.Fields.{Status, full, empty, blank}
 use Rattle.machine.specs.Image.{State, sizeIn, stateIn, imageWith, headerBytes, recordBytes}
-use Rattle.machine.specs.Sound.{stageFits, stagesFit, countFits, sound}
+use Rattle.machine.specs.Sound.{stagesFit, countFits, sound}
 use Rattle.machine.specs.Events.{Event, processAt, place, react, reaction, apply}
 use Rattle.machine.specs.Refusals.{unless, imageVerdict}
 use Rattle.machine.proofs.Lists.{all-at, all-each}
@@ -86,7 +86,7 @@ module _ (st : State) (v : Event) (below : v .process < length (st .processes)) 
             record {
               one-place = places-placed ps i r below (f .rest .one-place) (local .flags);
               stages =
-                  all-placed ps i r below (stageFits (r .envelope .full)) (λ _ _. refl) (λ _ _. refl)
+                  all-placed ps i r below _ (λ _ _. refl) (λ _ _. refl)
                   (stages-set (st .envelope .full) (r .envelope .full) ps i (r .process) below (f .rest .one-place)
                   (local .status) (f .rest .stages) (local .fits .has));
               count-full = counted few f full;

@@ -3,7 +3,7 @@
 -- up over them, changes by the own record alone, and the envelope stays at just one place. Assumes nothing.
 use Prim.Native.Nat.{ℕ, zero, suc, _+_, _<_}
 use mathlib.Core.Path.{_≡_, refl, ap, _∙_}
-use mathlib.Core.Bool.{Bool, true, false, not, _&&_, _||_, false≢true}
+use mathlib.Core.Bool.{Bool, true, false, _||_}
 use mathlib.Core.List.{List, [], _∷_}
 use mathlib.Core.Logic.{_⊎_, inl, inr, _≢_}
 use native.Mathlib.Omega.{arith}
@@ -19,12 +19,13 @@ use Rattle.machine.specs.Bytes.{bit}
 use Rattle.machine.specs.Lists.{all}
 use Rattle.machine.specs.Ring.{left, right}
 use Rattle.machine.specs.Fields.{Status, blank}
-use Rattle.machine.specs.Stages.{withEmpty, withFull}
-use Rattle.machine.specs.Sound.{places, stageFits}
+use Rattle.machine.specs.Sound.{places, stageFits, stagesFit}
 use Rattle.machine.specs.Events.{requested, arrived, processAt, change, place}
 use Rattle.machine.proofs.Lists.{and-first, and-second, all-at, all-each}
+use Rattle.machine.proofs.Bits.{bit-off}
 use Rattle.machine.proofs.Around.{length-change}
 use Rattle.machine.proofs.Sums.{sum, sum-set, part-le, two-le, flagsSet, places-sum}
+use Rattle.machine.proofs.Settled.{fits-any}
 
 -- ---- one record of a list
 
@@ -126,36 +127,26 @@ module _ (l : List Process) (i : ℕ) (r : Reaction) (h : i < length l) where
 
 -- ---- the stages of the others
 
--- where a record without the envelope fits, it fits any status
-fits-any : (old new : Status) (p : Process) → flagsSet p ≡ 0 → stageFits old p ≡ true → stageFits new p ≡ true
-fits-any old new p none =
-    go (withEmpty (p .stage)) (withFull (p .stage)) (p .have) (λ had. omega (arith, ap bit had, none))
-  where
-    go : (a b had : Bool) → (had ≡ true → ⊥)
-        → (not a || had && not old) && (not b || had && old) ≡ true
-        → (not a || had && not new) && (not b || had && new) ≡ true
-    go a b true away e = absurd (away refl)
-    go true b false away e = absurd (false≢true e)
-    go false true false away e = absurd (false≢true e)
-    go false false false away e = refl
-
 -- the status changes only where the envelope is, and then no other record has it
 pub stages-set : (old new : Status) (l : List Process) (i : ℕ) (p : Process) → i < length l → places l ≡ 1
     → (processAt l i .have ≡ true) ⊎ (new ≡ old)
-    → all (stageFits old) l ≡ true → stageFits new p ≡ true
-    → all (stageFits new) (set l i p) ≡ true
+    → stagesFit old l ≡ true → stageFits new (p .have) (p .stage) ≡ true
+    → stagesFit new (set l i p) ≡ true
+unfolding stagesFit
 stages-set old new l i p h one changes fits fit =
-    all-each (stageFits new) (set l i p) blank (λ j below. each j (omega (arith, length-set l i p)) (eqb j i) refl)
+    all-each _ (set l i p) blank (λ j below. each j (omega (arith, length-set l i p)) (eqb j i) refl)
   where
     other : (processAt l i .have ≡ true) ⊎ (new ≡ old) → (j : ℕ) → j < length l → j ≢ i
-        → stageFits new (processAt l j) ≡ true
+        → stageFits new (processAt l j .have) (processAt l j .stage) ≡ true
     other (inl had) j below apart =
-        fits-any old new (processAt l j)
-        (omega (arith, two-le flagsSet refl l i j h below apart, places-sum l, one, ap bit had))
-        (all-at (stageFits old) l blank fits j below)
-    other (inr same) j below apart = rw same (all-at (stageFits old) l blank fits j below)
+        let q = processAt l j in
+        let away = bit-off (q .have)
+        (omega (arith, two-le flagsSet refl l i j h below apart, places-sum l, one, ap bit had)) in
+        fits-any old new (q .have) (q .have) (q .stage) away (all-at _ l blank fits j below)
+    other (inr same) j below apart = rw same (all-at _ l blank fits j below)
 
-    each : (j : ℕ) → j < length l → (t : Bool) → eqb j i ≡ t → stageFits new (processAt (set l i p) j) ≡ true
+    each : (j : ℕ) → j < length l → (t : Bool) → eqb j i ≡ t
+        → stageFits new (processAt (set l i p) j .have) (processAt (set l i p) j .stage) ≡ true
     each j below true e =
         let here : j ≡ i = eqb-true j i e in
         rw (here, getD-set-same l i p blank h) fit

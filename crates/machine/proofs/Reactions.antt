@@ -2,7 +2,7 @@
 -- it is possible. Assumes nothing.
 use Prim.Native.Nat.{ℕ, _+_, _≤_}
 use mathlib.Core.Path.{_≡_, refl, ap}
-use mathlib.Core.Bool.{Bool, true, false}
+use mathlib.Core.Bool.{true}
 use mathlib.Core.Logic.{inl, inr}
 use native.Mathlib.Omega.{arith}
 use lib.Dec.{eqb, leb}
@@ -11,12 +11,13 @@ use Rattle.machine.specs.declared.Envelope.{Envelope}
 use Rattle.machine.specs.declared.Process.{Process}
 use Rattle.machine.specs.Bytes.{bit}
 use Rattle.machine.specs.Fields.{Status, for, count, withStage}
-use Rattle.machine.specs.Stages.{lastStage, told, withEmpty, withFull}
+use Rattle.machine.specs.Stages.{lastStage, told}
 use Rattle.machine.specs.Sound.{noteFits, stageFits}
 use Rattle.machine.specs.Events.{idle, startPut, startGet, work, signal, receive, hear, react}
+use Rattle.machine.proofs.Bits.{bit-off}
 use Rattle.machine.proofs.Sums.{flagsSet, marksFor}
 use Rattle.machine.proofs.Ways.{by-test, every-code}
-use Rattle.machine.proofs.Settled.{FitsOf, Fits, Settled, told-each, has-come, follows, marks-follow, at-stage}
+use Rattle.machine.proofs.Settled.{FitsOf, Fits, Settled, told-each, fits-any, follows, marks-follow, at-stage}
 use Rattle.machine.proofs.Settled.{had-at, still}
 use Rattle.machine.proofs.Puts.{put-settled}
 
@@ -109,7 +110,7 @@ module _ (e : Envelope) (p : Process) (fits : Fits e p) where
 
       step : (k : ℕ) → p .stage ≡ k → leb (k + 1) lastStage ≡ true → follows k (k + 1) ≡ true
           → noteFits (withStage (k + 1) p) ≡ true
-          → stageFits (e .full) (withStage (k + 1) p) ≡ true
+          → stageFits (e .full) (p .have) (k + 1) ≡ true
           → After k
       step k here range follow note has =
           record {
@@ -134,7 +135,7 @@ module _ (e : Envelope) (p : Process) (fits : Fits e p) where
   receive-settled alone =
       by-test (Settled e p) (p .arriving) _ _
       (λ comes.
-      let off = away comes (p .have) refl in
+      let off = bit-off (p .have) (omega (arith, ap bit comes)) in
       record {
         fits =
             record {
@@ -142,17 +143,13 @@ module _ (e : Envelope) (p : Process) (fits : Fits e p) where
               range = fits .range;
               marked = fits .marked;
               note-fits = fits .note-fits;
-              has = has-come (withEmpty (p .stage)) (withFull (p .stage)) (p .have) (e .full) off (fits .has);
+              has = fits-any (e .full) (e .full) (p .have) true (p .stage) off (fits .has);
             };
         flags = omega (arith, ap bit off, ap bit comes);
         status = inr refl;
         tally = λ s. refl;
       })
       (λ _. nothing)
-    where
-      away : p .arriving ≡ true → (b : Bool) → p .have ≡ b → b ≡ false
-      away comes true had = absurd (omega (arith, ap bit had, ap bit comes))
-      away comes false had = refl
 
   -- codes 5 and 6
   hear-settled : (s : Status) → Settled e p (hear s e p)

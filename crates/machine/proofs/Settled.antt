@@ -3,8 +3,8 @@
 -- own mark. Shown here of an event that touches no flag and no mark, and of a put from what its parts owe (Owed).
 -- Assumes nothing.
 use Prim.Native.Nat.{ℕ, _+_}
-use mathlib.Core.Path.{_≡_, refl, sym, ap, subst}
-use mathlib.Core.Bool.{Bool, true, false, not, cond, _&&_, _||_, Bool·beq, true≢false, false≢true}
+use mathlib.Core.Path.{_≡_, refl, sym, ap, _∙_, subst}
+use mathlib.Core.Bool.{Bool, true, false, not, cond, _&&_, _||_, Bool·beq, true≢false}
 use mathlib.Core.Logic.{_⊎_, inr}
 use native.Mathlib.Omega.{arith}
 use lib.Dec.{eqb, leb}
@@ -17,8 +17,9 @@ use Rattle.machine.specs.declared.Reaction.{Reaction}
 use Rattle.machine.specs.Bytes.{bit}
 use Rattle.machine.specs.Fields.{Status, full, empty, for, count, holding, processOf}
 use Rattle.machine.specs.Stages.{lastStage, plain, told, noted, withEmpty, withFull, markable}
+use Rattle.machine.specs.Sound.{stageFits}
 use Rattle.machine.specs.Events.{becomes, mark, ends}
-use Rattle.machine.proofs.Lists.{and-first, and-second, follow}
+use Rattle.machine.proofs.Lists.{and-first, and-second, or-first, or-second, follow}
 use Rattle.machine.proofs.Sums.{flagsSet, marksFor}
 use Rattle.machine.proofs.Owed.{Owed, begun, begun-owed, mark-owed}
 
@@ -30,7 +31,7 @@ pub record FitsOf (status : Status) (message stage : ℕ) (have : Bool) (marks :
   pub range : leb stage lastStage ≡ true
   pub marked : (s : Status) → not (for marks s) || markable s stage ≡ true
   pub note-fits : noted stage || eqb note 0 ≡ true
-  pub has : (not (withEmpty stage) || have && not status) && (not (withFull stage) || have && status) ≡ true
+  pub has : stageFits status have stage ≡ true
 
 -- the same by the envelope and the record
 abbrev pub Fits : Envelope → Process → Type 0
@@ -100,30 +101,37 @@ told-each P at-1 at-4 at-6 at-9 stage =
 pub plain-free : (stage : ℕ) → plain stage ≡ true → needs stage ≡ false
 plain-free = plain-each (λ (k : ℕ). needs k ≡ false) refl refl refl
 
--- a record that doesn't need the envelope fits without it
-has-left : (a b had status leaves : Bool) → (leaves ≡ true → a || b ≡ false)
-    → (not a || had && not status) && (not b || had && status) ≡ true
-    → (not a || cond leaves false had && not status) && (not b || cond leaves false had && status) ≡ true
-has-left a b had status false free h = h
-has-left true b had status true free h = absurd (true≢false (free refl))
-has-left false true had status true free h = absurd (true≢false (free refl))
-has-left false false had status true free h = refl
+-- a stage that fits without the envelope doesn't need it
+without-free : (status : Status) (stage : ℕ) → stageFits status false stage ≡ true → needs stage ≡ false
+without-free status stage = go (withEmpty stage) (withFull stage)
+  where
+    go : (a b : Bool) → (not a || false) && (not b || false) ≡ true → a || b ≡ false
+    go true b h = sym h
+    go false true h = sym h
+    go false false h = refl
 
--- and with it fits whatever fitted before
-pub has-come : (a b had status : Bool) → had ≡ false → (not a || had && not status) && (not b || had && status) ≡ true
-    → (not a || true && not status) && (not b || true && status) ≡ true
-has-come a b true status off h = absurd (true≢false off)
-has-come true b false status off h = absurd (false≢true h)
-has-come false true false status off h = absurd (false≢true h)
-has-come false false false status off h = refl
+-- and one that doesn't need it fits with it and without, whatever the status
+free-fits : (status : Status) (have : Bool) (stage : ℕ) → needs stage ≡ false → stageFits status have stage ≡ true
+free-fits status have stage free =
+    rw (or-first (withEmpty stage) (withFull stage) free, or-second (withEmpty stage) (withFull stage) free)
 
--- a record that needs the envelope has it
-needs-had : (a b had status : Bool) → (not a || had && not status) && (not b || had && status) ≡ true
-    → a || b ≡ true
-    → had ≡ true
-needs-had a b true status h needed = refl
-needs-had true b false status h needed = h
-needs-had false b false status h needed = rw needed at h
+-- so what fits without it fits in any case
+pub fits-any : (old new : Status) (had have : Bool) (stage : ℕ) → had ≡ false → stageFits old had stage ≡ true
+    → stageFits new have stage ≡ true
+fits-any old new true have stage off h = absurd (true≢false off)
+fits-any old new false have stage off h = free-fits new have stage (without-free old stage h)
+
+-- where only a stage that doesn't need it loses it, what fitted still fits
+has-left : (status had leaves : Bool) (stage : ℕ) → (leaves ≡ true → needs stage ≡ false)
+    → stageFits status had stage ≡ true
+    → stageFits status (cond leaves false had) stage ≡ true
+has-left status had true stage free h = free-fits status false stage (free refl)
+has-left status had false stage free h = h
+
+-- and a stage that needs it has it
+needs-had : (status had : Bool) (stage : ℕ) → stageFits status had stage ≡ true → needs stage ≡ true → had ≡ true
+needs-had status true stage h needed = refl
+needs-had status false stage h needed = absurd (true≢false (sym needed ∙ without-free status stage h))
 
 -- a have flag that goes off leaves with the envelope
 flags-left : (leaves had : Bool) (a : ℕ) → (leaves ≡ true → had ≡ true)
@@ -159,7 +167,7 @@ module _ (e : Envelope) (p : Process) (fits : Fits e p) where
   -- a stage that needs the envelope has it
   pub had-at : (k : ℕ) → p .stage ≡ k → needs k ≡ true → p .have ≡ true
   had-at k here needed =
-      needs-had (withEmpty (p .stage)) (withFull (p .stage)) (p .have) (e .full) (fits .has) (rw here needed)
+      needs-had (e .full) (p .have) (p .stage) (fits .has) (rw here needed)
 
   -- a process that waits for the status opposite to the present one marks for it
   pub mark-waiting : (s : Status) → p .stage ≡ waitsFor s → not (e .full) ≡ s → Owed e p (mark (begun e p))
@@ -188,8 +196,7 @@ module _ (e : Envelope) (p : Process) (fits : Fits e p) where
               note-fits = rw (o .stage-same, o .note-same) (fits .note-fits);
               has =
                   rw (o .status-same, o .stage-same, o .have-left)
-                  (has-left (withEmpty (p .stage)) (withFull (p .stage)) (p .have) (e .full) (r .leaves) free
-                  (fits .has));
+                  (has-left (e .full) (p .have) (r .leaves) (p .stage) free (fits .has));
             };
         flags =
             rw (o .have-left, o .arriving-same) (flags-left (r .leaves) (p .have) (bit (p .arriving)) (o .leaving));

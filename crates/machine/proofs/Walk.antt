@@ -50,9 +50,9 @@ unfolding stagesFit all
 stages-none status = refl
 
 pub stages-more : (status : Status) (ps : List Process) (p : Process)
-    → stagesFit status (ps ++ (p ∷ [])) ≡ stagesFit status ps && stageFits status p
+    → stagesFit status (ps ++ (p ∷ [])) ≡ stagesFit status ps && stageFits status (p .have) (p .stage)
 unfolding stagesFit
-stages-more status ps p = all-more (stageFits status) ps p
+stages-more status ps p = all-more _ ps p
 
 pub places-none : places [] ≡ 0
 unfolding places

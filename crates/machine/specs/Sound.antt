@@ -70,14 +70,15 @@ unfoldable pub places : List Process → ℕ
 places [] = 0
 places (p ∷ ps) = bit (p .have) + bit (p .arriving) + places ps
 
--- stages 3, 9 and 10 have the envelope and it is empty, stages 4, 5 and 8 have it and it is full
-abbrev pub stageFits : Status → Process → Bool
-stageFits status p =
-    (not (withEmpty (p .stage)) || p .have && not status) && (not (withFull (p .stage)) || p .have && status)
+-- by the status and a process's have flag: stages 3, 9 and 10 have the envelope and it is empty, stages 4, 5 and 8
+-- have it and it is full
+abbrev pub stageFits : Status → Bool → ℕ → Bool
+stageFits status have stage =
+    (not (withEmpty stage) || have && not status) && (not (withFull stage) || have && status)
 
 -- and so at every process
 unfoldable pub stagesFit : Status → List Process → Bool
-stagesFit status ps = all (stageFits status) ps
+stagesFit status ps = all (λ p. stageFits status (p .have) (p .stage)) ps
 
 -- the set of the processes marked for s, as a number: its digit i is one exactly when process i is marked
 unfoldable pub markedSet : Status → List Process → ℕ

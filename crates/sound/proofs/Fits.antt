@@ -30,7 +30,7 @@ fit-whole s status (suc n) =
     let more : recordsFit s (suc n) ≡ recordsFit s n && holds (recordRulesIn s n) =
     ap (recordsFit s) (sym (add-one n)) ∙ records-more s n in
     let one-more : stagesFit status (processesIn s (suc n))
-    ≡ stagesFit status (processesIn s n) && stageFits status (processIn s n) =
+    ≡ stagesFit status (processesIn s n) && stageFits status (processIn s n .have) (processIn s n .stage) =
     ap (λ k. stagesFit status (processesIn s k)) (sym (add-one n))
     ∙ ap (stagesFit status) (processes-more s n)
     ∙ stages-more status (processesIn s n) (processIn s n) in
@@ -39,5 +39,5 @@ fit-whole s status (suc n) =
     ∙ ap (λ k. all (λ b. b) (tabulate fits 0 n) && fits k) here
     ∙ ap (λ b. b && fits n) (fit-whole s status n)
     ∙ pairs (recordsFit s n) (stagesFit status (processesIn s n)) (holds (recordRulesIn s n))
-    (stageFits status (processIn s n))
+    (stageFits status (processIn s n .have) (processIn s n .stage))
     ∙ rw (more, one-more)

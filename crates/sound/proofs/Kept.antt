@@ -12,17 +12,13 @@ use Rattle.machine.specs.Fields.{Status, full, empty}
 use Rattle.machine.specs.Image.{processFrom}
 use Rattle.machine.specs.Stages.{noted, markable}
 use Rattle.machine.specs.Sound.{holds, recordRules, stageFits}
-use Rattle.machine.proofs.Bits.{bit-le, bit-is, is-bit}
+use Rattle.machine.proofs.Bits.{bit-le, bit-off, bit-is, is-bit}
 use Rattle.machine.proofs.Lists.{and-first, and-second, and-both}
 use Rattle.sound.specs.Demands.{lawful, markMask, fromParts, lawfulMask, entryOf, unlawfulMask, demandOf}
 use Rattle.sound.specs.Walk.{leftOf, wrongIn}
 use Rattle.sound.proofs.Masks.{two-parts, mask-flags, mask-marks, mask-byte, mask-note, mask-stage}
 
 -- ---- tests and bits
-
-bit-zero : (b : Bool) → bit b ≡ 0 → b ≡ false
-bit-zero true e = absurd (omega arith)
-bit-zero false e = refl
 
 by-test : {P : Type 0} (b : Bool) → (b ≡ true → P) → (b ≡ false → P) → P
 by-test true f g = f refl
@@ -178,9 +174,7 @@ module _ (status : Status) (stage flags requests third note : ℕ) (s-lt : stage
   -- ---- a record that fits, and one that doesn't
 
   abbrev fits : Bool
-  fits =
-      holds (recordRules flags third (processFrom stage flags requests note))
-      && stageFits status (processFrom stage flags requests note)
+  fits = holds (recordRules flags third (processFrom stage flags requests note)) && stageFits status have stage
 
   abbrev left : ℕ
   left = leftOf (bit status) word
@@ -204,7 +198,7 @@ module _ (status : Status) (stage flags requests third note : ℕ) (s-lt : stage
       let d = not (bitOf requests 5) || markable empty stage in
       let e = eqb third 0 in
       let f = noted stage || eqb note 0 in
-      let st = stageFits status (processFrom stage flags requests note) in
+      let st = stageFits status have stage in
       let to-f = and-first (a && b && c && d && e && f) st ok in
       let to-e = and-first (a && b && c && d && e) f to-f in
       let to-d = and-first (a && b && c && d) e to-e in
@@ -233,11 +227,11 @@ module _ (status : Status) (stage flags requests third note : ℕ) (s-lt : stage
       let d = not (bitOf requests 5) || markable empty stage in
       let e = eqb third 0 in
       let f = noted stage || eqb note 0 in
-      let st = stageFits status (processFrom stage flags requests note) in
+      let st = stageFits status have stage in
       let legal : lawful status have stage ≡ true = sym (law-is short) ∙ law in
       let same : wrongMarks stage ≡ 0 = rw here at marks in
-      let wrong-full = bit-zero (not (markable full stage) && bitOf requests 4) (omega arith) in
-      let wrong-empty = bit-zero (not (markable empty stage) && bitOf requests 5) (omega arith) in
+      let wrong-full = bit-off (not (markable full stage) && bitOf requests 4) (omega arith) in
+      let wrong-empty = bit-off (not (markable empty stage) && bitOf requests 5) (omega arith) in
       let free : cond (noted stage) 0 note ≡ 0 = rw here at no-note in
       and-both (a && b && c && d && e && f) st
       (and-both (a && b && c && d && e) f
@@ -259,8 +253,8 @@ module _ (status : Status) (stage flags requests third note : ℕ) (s-lt : stage
       let upper : 16 * (stage / 16) < 256 = omega arith in
       let byte : flags % 4 + 8 * (flags / 8) < 256 = omega arith in
       let e = entry % 16 in
-      let all = none-wrong (16 * (stage / 16)) (flags % 4 + 8 * (flags / 8)) (wrongMarks e) third (cond (noted e) 0 note)
-      upper byte (rw here at none) in
+      let all = none-wrong (16 * (stage / 16)) (flags % 4 + 8 * (flags / 8)) (wrongMarks e) third
+      (cond (noted e) 0 note) upper byte (rw here at none) in
       rules-hold (omega (arith, all .first)) (omega (arith, all .second)) law (all .third) (all .fourth) (all .rest)
 
   -- and under another something is: a stage that isn't 0

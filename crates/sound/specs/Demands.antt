@@ -1,17 +1,16 @@
 -- What soundness demands of one process record, as a mask over its eight bytes: document 01, "The image", its paragraph
 -- on soundness. A mask's bits must be 0 in the record, but for have and arriving, which are counted. Assumes nothing.
 use Prim.Native.Nat.{ℕ, _+_, _*_, _/_, _%_}
-use mathlib.Core.Bool.{Bool, not, cond, _&&_, _||_}
+use mathlib.Core.Bool.{Bool, not, cond, _&&_}
 use lib.Dec.{eqb, leb}
 use Rattle.machine.specs.Bytes.{bit}
 use Rattle.machine.specs.Fields.{Status, full, empty}
-use Rattle.machine.specs.Stages.{lastStage, noted, withEmpty, withFull, markable}
+use Rattle.machine.specs.Stages.{lastStage, noted, markable}
+use Rattle.machine.specs.Sound.{stageFits}
 
--- whether a stage may stand under this status, with or without have
+-- whether this is a stage, and may stand under this status, with or without have
 abbrev pub lawful : Status → Bool → ℕ → Bool
-lawful status have stage =
-    leb stage lastStage
-    && ((not (withEmpty stage) || have && not status) && (not (withFull stage) || have && status))
+lawful status have stage = leb stage lastStage && stageFits status have stage
 
 -- byte 2: the marks that may not stand at this stage
 abbrev pub markMask : ℕ → ℕ

@@ -51,7 +51,7 @@ recordsFrom s i k = tabulate (processIn s) i k
 
 -- record i is in range, and its stage has the envelope that it needs
 abbrev pub recordFits : List ℕ → Status → ℕ → Bool
-recordFits s status i = holds (recordRulesIn s i) && stageFits status (processIn s i)
+recordFits s status i = holds (recordRulesIn s i) && stageFits status (processIn s i .have) (processIn s i .stage)
 
 -- and so are k records from i on
 abbrev pub fitFrom : List ℕ → Status → ℕ → ℕ → Bool

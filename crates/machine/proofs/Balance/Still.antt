@@ -11,7 +11,8 @@ use Rattle.machine.specs.declared.Process.{Process}
 use Rattle.machine.specs.Bytes.{bit}
 use Rattle.machine.specs.Lists.{every}
 use Rattle.machine.specs.Fields.{Status, for}
-use Rattle.machine.specs.Stages.{lastStage, told, withEmpty, withFull, sending, filled, receiving}
+use Rattle.machine.specs.Stages.{lastStage, told, sending, filled, receiving}
+use Rattle.machine.specs.Sound.{stageFits}
 use Rattle.machine.proofs.Lists.{and-first, and-second, or-first, or-second, follow}
 use Rattle.machine.proofs.Settled.{Fits, had-at, waitsFor}
 use Rattle.machine.proofs.Stopped.{nothingAt}
@@ -120,8 +121,7 @@ pub record Unserved (status : Status) (have : Bool) (stage : ℕ) : Type 0 where
 -- the stage has the envelope that it needs, is at rest, doesn't wait for the present status, and isn't 10
 abbrev standing : Status → Bool → ℕ → Bool
 standing status have stage =
-    (not (withEmpty stage) || have && not status) && (not (withFull stage) || have && status)
-    && restful stage && not (eqb stage (waitsFor status)) && not (eqb stage 10)
+    stageFits status have stage && restful stage && not (eqb stage (waitsFor status)) && not (eqb stage 10)
 
 -- then it is unserved, as a test
 abbrev standsUnserved : Status → Bool → ℕ → Bool
