@@ -5,7 +5,7 @@ use mathlib.Core.Path.{_≡_, refl, sym, ap, _∙_}
 use mathlib.Core.List.{List}
 use native.Mathlib.Omega.{arith}
 use Rattle.machine.specs.Bytes.{bit}
-use Rattle.machine.specs.Lists.{tabulate}
+use Rattle.machine.specs.Lists.{tabulate, sum}
 use Rattle.machine.specs.Image.{processIn, processesIn, sizeIn, envelopeIn, stateIn}
 use Rattle.machine.specs.Sound.{places}
 use Rattle.machine.specs.Balance.{ownMessage}
@@ -15,7 +15,7 @@ use Rattle.calls.specs.Demand.{flagsSet, ownMessageIn}
 
 -- of the first n records
 flags-places : (image : List ℕ) (n : ℕ) → flagsSet image n ≡ places (processesIn image n)
-unfolding flagsSet places processesIn processIn tabulate
+unfolding flagsSet sum processesIn processIn tabulate
 flags-places image zero = refl
 flags-places image (suc n) =
     let f = processIn image in

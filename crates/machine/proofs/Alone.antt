@@ -28,13 +28,13 @@ use Rattle.machine.proofs.Balance.Clauses.{Invariant}
 use Rattle.machine.proofs.Balance.Kept.{events-kept}
 use Rattle.machine.proofs.Balance.Still.{refuted}
 use Rattle.machine.proofs.Balance.Standstill.{ended}
-use Rattle.machine.proofs.Balance.Theorem.{in-stages-sum, reached}
+use Rattle.machine.proofs.Balance.Theorem.{reached}
 use Rattle.machine.proofs.Balance.Witness.{at}
 
 -- ---- a put may end alone
 
--- two processes: 1 asks for empty, and 0 lets the envelope leave; then 0 asks for full, and 1 passes that on to 0 again,
--- while the envelope is on its way to 1
+-- two processes: 1 asks for empty, and 0 lets the envelope leave; then 0 asks for full, and 1 passes that on to 0
+-- again, while the envelope is on its way to 1
 unfoldable pub twoCross : List Event
 twoCross =
     at 0 1 0 ∷ at 1 0 2 ∷ at 1 3 0 ∷ at 1 7 0 ∷ at 0 6 0 ∷ at 0 7 0 ∷ at 0 3 0 ∷ at 0 7 0 ∷ at 1 5 0 ∷ at 1 7 0 ∷ []
@@ -142,7 +142,6 @@ module _ (st : State) (c : Counts) (fills takes : List ℕ) (inv : Invariant st 
       omega (
         arith,
         inv .counted .fills,
-        in-stages-sum filled (st .processes),
         put-ended .nobody,
         ap length filled-last ∙ length-append takes (message ∷ []),
       )

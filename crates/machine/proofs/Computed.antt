@@ -3,10 +3,10 @@
 use mathlib.Core.Bool.{Bool, true}
 use lib.Count.{onesIn}
 use Rattle.machine.specs.Bytes.{littleEndian, number, bytes, allZero, zeros, splice}
-use Rattle.machine.specs.Lists.{tabulate, every, all, join}
+use Rattle.machine.specs.Lists.{tabulate, every, all, sum, join}
 use Rattle.machine.specs.Image.{envelopeIn, processIn, processesIn, stateIn, headerBytes, processBytes}
 use Rattle.machine.specs.Image.{recordBytes, imageBytes, imageWith}
-use Rattle.machine.specs.Sound.{headerFits, recordsFit, places, stagesFit, markedSet, restFits, sound}
+use Rattle.machine.specs.Sound.{headerFits, recordsFit, stagesFit, markedSet, restFits, sound}
 use Rattle.machine.specs.Fresh.{freshState}
 use Rattle.machine.specs.Events.{ask, passFor, pass, markFor, mark, unmark, clear, wanted, leave, heeding}
 use Rattle.machine.specs.Events.{forward, ends, stroll, wait, endPut, putAt}
@@ -14,7 +14,7 @@ use Rattle.machine.specs.Events.{startPut, startGet, work, signal, recei
 use Rattle.machine.specs.Events.{reaction, outcome, apply}
 use Rattle.machine.specs.Stopped.{quiet, stopped}
 use Rattle.machine.specs.Run.{ledgerRecord, ledgerEntry, ledgerFrom, counted, countsFrom, after}
-use Rattle.machine.specs.Balance.{filledFrom, takenFrom, totalsFrom, inStages}
+use Rattle.machine.specs.Balance.{filledFrom, takenFrom, totalsFrom}
 use Rattle.machine.specs.Tape.{eventIn, eventsIn, words, checkFrom, covered, usedSlots, listOf, blockBytes}
 use Rattle.machine.specs.Tape.{slotsFor, padded, blockFor, tapeOf}
 use Rattle.machine.specs.Refusals.{first, sizeVerdict, homeVerdict, roomVerdict, imageVerdict, eventFits}
@@ -34,7 +34,7 @@ unfolding littleEndian number bytes allZero zeros splice
 ofBytes = true
 
 unfoldable pub ofLists : Bool
-unfolding tabulate every all join
+unfolding tabulate every all sum join
 ofLists = true
 
 unfoldable pub ofImage : Bool
@@ -42,7 +42,7 @@ unfolding envelopeIn processIn processesIn stateIn headerBytes processBytes reco
 ofImage = true
 
 unfoldable pub ofSound : Bool
-unfolding onesIn freshState headerFits recordsFit places stagesFit markedSet restFits sound
+unfolding onesIn freshState headerFits recordsFit stagesFit markedSet restFits sound
 ofSound = true
 
 unfoldable pub ofPut : Bool
@@ -58,7 +58,7 @@ unfolding ledgerRecord ledgerEntry ledgerFrom counted countsFrom after
 ofRun = true
 
 unfoldable pub ofBalance : Bool
-unfolding filledFrom takenFrom totalsFrom inStages
+unfolding filledFrom takenFrom totalsFrom
 ofBalance = true
 
 unfoldable pub ofTape : Bool

@@ -12,7 +12,7 @@ use borrow.Author.Tests.{eqb-true}
 use Rattle.machine.specs.declared.Process.{Process}
 use Rattle.machine.specs.declared.Verdict.the-variants.{Fine}
 use Rattle.machine.specs.Bytes.{bit, bytes, splice}
-use Rattle.machine.specs.Lists.{all}
+use Rattle.machine.specs.Lists.{all, sum}
 use Rattle.machine.specs.Ring.{imageLength, recordAt}
 use Rattle.machine.specs.Fields.{Status, full, empty, none, for, blank, withHave}
 use Rattle.machine.specs.Image.{headerBytes, processBytes, recordBytes, imageWith, sizeIn, stateIn}
@@ -103,12 +103,12 @@ all-fresh f (suc n) zero e g = rw (g, all-blank f n e)
 all-fresh f (suc n) (suc k) e g = rw (e, all-fresh f n k e g)
 
 blank-places : (n : ℕ) → places (replicate n blank) ≡ 0
-unfolding places
+unfolding sum
 blank-places zero = refl
 blank-places (suc n) = rw (blank-places n)
 
 fresh-places : (n k : ℕ) → k < n → places (freshProcesses n k) ≡ 1
-unfolding places
+unfolding sum
 fresh-places zero k h = absurd (omega arith)
 fresh-places (suc n) zero h = rw (blank-places n)
 fresh-places (suc n) (suc k) h = rw (fresh-places n k (omega arith))

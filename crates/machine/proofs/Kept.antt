@@ -28,7 +28,7 @@ use Rattle.machine.proofs.Rewrite.{rewrite-image, read-in-range}
 use Rattle.machine.proofs.Written.{processFits, stateFits, sound-written}
 use Rattle.machine.proofs.Stored.{length-state}
 use Rattle.machine.proofs.Refusals.{SizeFits, image-fine, image-whole}
-use Rattle.machine.proofs.Sums.{part-le, flagsSet, marksFor, places-sum, marked-sum, count-sum, count-le}
+use Rattle.machine.proofs.Sums.{part-le, flagsSet, marksFor, marked-sum, count-sum, count-le}
 use Rattle.machine.proofs.Sums.{mark-counted}
 use Rattle.machine.proofs.Settled.{Settled}
 use Rattle.machine.proofs.Facts.{StateFacts, state-facts, facts-state, fits-at, fits-record}
@@ -53,7 +53,7 @@ module _ (st : State) (v : Event) (below : v .process < length (st .processes)) 
   settled-at few f =
       let ps = st .processes in
       react-settled (st .envelope) (processAt ps (v .process)) (fits-at st f (v .process) below) (v .code) (v .message)
-      (omega (arith, part-le flagsSet ps (v .process) below, places-sum ps, f .rest .one-place))
+      (omega (arith, part-le flagsSet ps (v .process) below, f .rest .one-place))
       (mark-counted st few (f .rest) (v .process) below)
 
   -- each count is the sum of the marks again

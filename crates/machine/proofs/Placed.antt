@@ -16,7 +16,7 @@ use Rattle.machine.specs.declared.Pair.{Pair}
 use Rattle.machine.specs.declared.Process.{Process}
 use Rattle.machine.specs.declared.Reaction.{Reaction}
 use Rattle.machine.specs.Bytes.{bit}
-use Rattle.machine.specs.Lists.{all}
+use Rattle.machine.specs.Lists.{all, sum}
 use Rattle.machine.specs.Ring.{left, right}
 use Rattle.machine.specs.Fields.{Status, blank}
 use Rattle.machine.specs.Sound.{places, stageFits, stagesFit}
@@ -24,7 +24,7 @@ use Rattle.machine.specs.Events.{requested, arrived, processAt, change, 
 use Rattle.machine.proofs.Lists.{and-first, and-second, all-at, all-each}
 use Rattle.machine.proofs.Bits.{bit-off}
 use Rattle.machine.proofs.Around.{length-change}
-use Rattle.machine.proofs.Sums.{sum, sum-set, part-le, two-le, flagsSet, places-sum}
+use Rattle.machine.proofs.Sums.{sum-set, part-le, two-le, flagsSet}
 use Rattle.machine.proofs.Settled.{fits-any}
 
 -- ---- one record of a list
@@ -119,11 +119,10 @@ module _ (l : List Process) (i : ℕ) (r : Reaction) (h : i < length l) where
       let k = right (length l) i in
       let own = sum-set flagsSet l i (r .process) h in
       let links = sum-change flagsSet ownSet (left (length l) i) (requested (r .asks)) left-in in
-      let before : sum flagsSet leftSet + bit (r .leaves) ≡ 1 = omega (arith, own, links, one, places-sum l, flags) in
+      let before : sum flagsSet leftSet + bit (r .leaves) ≡ 1 = omega (arith, own, links, one, flags) in
       let here = part-le flagsSet leftSet k right-in in
       let comes = arrive (r .leaves) (processAt leftSet k) (λ left. omega (arith, ap bit left, before, here)) in
-      places-sum (place l i r)
-      ∙ omega (arith, sum-change flagsSet leftSet k (arrived (r .leaves)) right-in, comes, before)
+      omega (arith, sum-change flagsSet leftSet k (arrived (r .leaves)) right-in, comes, before)
 
 -- ---- the stages of the others
 
@@ -141,7 +140,7 @@ stages-set old new l i p h one changes fits fit =
     other (inl had) j below apart =
         let q = processAt l j in
         let away = bit-off (q .have)
-        (omega (arith, two-le flagsSet refl l i j h below apart, places-sum l, one, ap bit had)) in
+        (omega (arith, two-le flagsSet refl l i j h below apart, one, ap bit had)) in
         fits-any old new (q .have) (q .have) (q .stage) away (all-at _ l blank fits j below)
     other (inr same) j below apart = rw same (all-at _ l blank fits j below)
 

@@ -15,9 +15,10 @@ use borrow.Author.Tests.{eqb-true}
 use Rattle.machine.specs.declared.Process.{Process}
 use Rattle.machine.specs.declared.Verdict.the-variants.{Fine}
 use Rattle.machine.specs.Bytes.{bit}
+use Rattle.machine.specs.Lists.{sum}
 use Rattle.machine.specs.Fields.{Status, for, count, blank}
 use Rattle.machine.specs.Image.{State, sizeIn, stateIn}
-use Rattle.machine.specs.Sound.{places, markedSet}
+use Rattle.machine.specs.Sound.{markedSet}
 use Rattle.machine.specs.Events.{processAt}
 use Rattle.machine.specs.Refusals.{imageVerdict}
 use Rattle.machine.proofs.Bytes.{lt-or-ge}
@@ -27,11 +28,6 @@ use Rattle.machine.proofs.Stored.{length-state}
 use Rattle.machine.proofs.Refusals.{image-fine}
 
 -- ---- sums
-
--- what each record has by w, added up
-unfoldable pub sum : (Process → ℕ) → List Process → ℕ
-sum w [] = 0
-sum w (p ∷ ps) = w p + sum w ps
 
 -- one record replaced
 pub sum-set : (w : Process → ℕ) (l : List Process) (i : ℕ) (p : Process) → i < length l
@@ -103,12 +99,6 @@ flagsSet p = bit (p .have) + bit (p .arriving)
 -- whether a record is marked for s, as a number
 abbrev pub marksFor : Status → Process → ℕ
 marksFor s p = bit (for (p .mark) s)
-
--- the flags that are set in all
-pub places-sum : (l : List Process) → places l ≡ sum flagsSet l
-unfolding places sum
-places-sum [] = refl
-places-sum (p ∷ l) = ap (λ (n : ℕ). flagsSet p + n) (places-sum l)
 
 -- zero has no digit that is one
 no-ones : (k : ℕ) → onesIn k 0 ≡ 0

@@ -11,7 +11,7 @@ use lib.Dec.{lit<, lit≤}
 use lib.Count.{ones, onesIn, ones-step}
 use Rattle.machine.specs.declared.Process.{Process}
 use Rattle.machine.specs.Bytes.{bit}
-use Rattle.machine.specs.Lists.{tabulate, all}
+use Rattle.machine.specs.Lists.{tabulate, all, sum}
 use Rattle.machine.specs.Fields.{Status, for}
 use Rattle.machine.specs.Image.{processIn, processesIn}
 use Rattle.machine.specs.Sound.{holds, recordRulesIn, recordsFit, places, stageFits, stagesFit, markedSet, ones64}
@@ -55,17 +55,17 @@ unfolding stagesFit
 stages-more status ps p = all-more _ ps p
 
 pub places-none : places [] ≡ 0
-unfolding places
+unfolding sum
 places-none = refl
 
 pub places-more : (ps : List Process) (p : Process)
     → places (ps ++ (p ∷ [])) ≡ places ps + bit (p .have) + bit (p .arriving)
-unfolding places
+unfolding sum
 places-more [] p = omega arith
 places-more (q ∷ ps) p = omega (arith, places-more ps p)
 
 pub places-le : (ps : List Process) → places ps ≤ 2 * length ps
-unfolding places
+unfolding sum
 places-le [] = lit≤ tt
 places-le (p ∷ ps) = omega (arith, places-le ps, bit-le (p .have), bit-le (p .arriving))
 

@@ -8,7 +8,7 @@ use lib.Dec.{eqb, leb}
 use lib.Count.{onesIn}
 use Rattle.machine.specs.declared.Process.{Process}
 use Rattle.machine.specs.Bytes.{bit, zeros}
-use Rattle.machine.specs.Lists.{every, all}
+use Rattle.machine.specs.Lists.{every, all, sum}
 use Rattle.machine.specs.Ring.{recordAt}
 use Rattle.machine.specs.Fields.{Status, full, empty, for, count}
 use Rattle.machine.specs.Image.{State, processIn, stateIn, sizeIn}
@@ -66,9 +66,8 @@ recordsFit s n = every n (λ i. holds (recordRulesIn s i))
 -- ---- the rest: what binds one byte to others
 
 -- how many of the have and arriving flags are set
-unfoldable pub places : List Process → ℕ
-places [] = 0
-places (p ∷ ps) = bit (p .have) + bit (p .arriving) + places ps
+abbrev pub places : List Process → ℕ
+places ps = sum (λ p. bit (p .have) + bit (p .arriving)) ps
 
 -- by the status and a process's have flag: stages 3, 9 and 10 have the envelope and it is empty, stages 4, 5 and 8
 -- have it and it is full

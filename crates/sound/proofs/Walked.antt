@@ -13,7 +13,7 @@ use lib.Bits.{bitOr, or-mod, or-shr, or-add-and, and-le-l, and-le-r}
 use lib.Pow.{shr-shr, pow-mono}
 use lib.Count.{ones}
 use Rattle.machine.specs.Bytes.{Bytes, bit, bitOf, number}
-use Rattle.machine.specs.Lists.{tabulate, all}
+use Rattle.machine.specs.Lists.{tabulate, all, sum}
 use Rattle.machine.specs.Fields.{Status, full, empty, for}
 use Rattle.machine.specs.Image.{processIn}
 use Rattle.machine.specs.Sound.{places, markedSet}
@@ -148,20 +148,20 @@ module _ (s : List ℕ) (small : Bytes s) (i : ℕ) where
     unfolding processIn
     word-kept ok =
         rw word-is
-        (kept status _ _ _ _ _ (small at) (small (at + 1)) (small (at + 2)) (small (at + 3)) (number-lt s (at + 4) small)
-        ok)
+        (kept status _ _ _ _ _ (small at) (small (at + 1)) (small (at + 2)) (small (at + 3))
+        (number-lt s (at + 4) small) ok)
 
     word-clean : wrongIn (leftOf (bit status) word) ≡ 0 → recordFits s status i ≡ true
     unfolding processIn
     word-clean none =
-        clean status _ _ _ _ _ (small at) (small (at + 1)) (small (at + 2)) (small (at + 3)) (number-lt s (at + 4) small)
-        (rw word-is at none)
+        clean status _ _ _ _ _ (small at) (small (at + 1)) (small (at + 2)) (small (at + 3))
+        (number-lt s (at + 4) small) (rw word-is at none)
 
     -- ---- the walk, with record i before those behind it
 
     walk-more : (k : ℕ) {w : Walk} → k < 64 → Walked s status (i + 1) k w
         → Walked s status i (suc k) (walkedOn w (bit status) word)
-    unfolding walkedOn tabulate all places markedSet
+    unfolding walkedOn tabulate all sum markedSet
     walk-more k {w} below so =
         let p = processIn s i in
         let ps = recordsFrom s (i + 1) k in
@@ -184,7 +184,7 @@ module _ (s : List ℕ) (small : Bytes s) (i : ℕ) where
 
 pub walk-none : (s : List ℕ) (status : Status) (i : ℕ)
     → Walked s status i 0 (record { left = 0; flags = 0; full = 0; empty = 0 })
-unfolding tabulate all places markedSet
+unfolding tabulate all sum markedSet
 walk-none s status i =
     record {
       clean = λ none. refl;

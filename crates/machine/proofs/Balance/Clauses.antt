@@ -2,21 +2,19 @@
 -- the state fits; they meet only in the standstill. Full and empty are mirror images: each is said over the status.
 -- Assumes nothing.
 use Prim.Native.Nat.{ℕ, _+_, _≤_, _<_}
-use mathlib.Core.Path.{_≡_, sym, _∙_}
+use mathlib.Core.Path.{_≡_}
 use mathlib.Core.Bool.{Bool, true, false, not, _&&_, _||_}
 use mathlib.Core.List.{List, _++_}
 use lib.ListN.{length}
 use lib.Dec.{eqb}
 use Rattle.machine.specs.declared.Envelope.{Envelope}
 use Rattle.machine.specs.declared.Process.{Process}
-use Rattle.machine.specs.Bytes.{bit}
 use Rattle.machine.specs.Ring.{left}
 use Rattle.machine.specs.Fields.{Status, for}
 use Rattle.machine.specs.Image.{State}
 use Rattle.machine.specs.Stages.{within, sending, filled, receiving}
 use Rattle.machine.specs.Events.{wanted, processAt}
-use Rattle.machine.specs.Balance.{Totals, ownMessage}
-use Rattle.machine.proofs.Sums.{sum, flagsSet, places-sum}
+use Rattle.machine.specs.Balance.{Totals, inStages, ownMessage}
 use Rattle.machine.proofs.Settled.{waitsFor}
 use Rattle.machine.proofs.Facts.{StateFacts}
 
@@ -29,10 +27,6 @@ restful stage = eqb stage 0 || eqb stage 2 || eqb stage 5 || eqb stage 7 || eqb 
 -- a message is taken, and its get hasn't ended
 abbrev pub emptied : ℕ → Bool
 emptied = within 9 10
-
--- how many processes are in stages of a set, as a sum
-abbrev pub number : (ℕ → Bool) → List Process → ℕ
-number stages l = sum (λ p. bit (stages (p .stage))) l
 
 -- ---- A. The holder at rest
 
@@ -60,7 +54,7 @@ unclaimed e = e .full && not (wanted e)
 
 -- then a put that filled it hasn't ended
 abbrev pub Claimed : State → Type 0
-Claimed st = unclaimed (st .envelope) ≡ true → 1 ≤ number filled (st .processes)
+Claimed st = unclaimed (st .envelope) ≡ true → 1 ≤ inStages filled (st .processes)
 
 -- ---- C. Who needs s and has rested has asked for it
 
@@ -90,10 +84,10 @@ Handed s p neighbour = awaits s p ≡ true → holdsRequest s neighbour ≡ true
 
 -- puts and gets under way are in their stages, and so are the messages filled and taken
 pub record Counted (l : List Process) (e : Envelope) (t : Totals) : Type 0 where
-  pub puts : t .puts ≡ t .sent + number sending l
-  pub gets : t .gets ≡ t .got + number receiving l
-  pub fills : length (t .filled) ≡ t .sent + number filled l
-  pub takes : length (t .taken) ≡ t .got + number emptied l
+  pub puts : t .puts ≡ t .sent + inStages sending l
+  pub gets : t .gets ≡ t .got + inStages receiving l
+  pub fills : length (t .filled) ≡ t .sent + inStages filled l
+  pub takes : length (t .taken) ≡ t .got + inStages emptied l
   pub messages : t .filled ≡ t .taken ++ ownMessage e
 
 -- ---- all of them
@@ -108,7 +102,3 @@ pub record Invariant (st : State) (t : Totals) : Type 0 where
   pub handed : (i : ℕ) → i < length (st .processes) → (s : Status)
       → Handed s (processAt (st .processes) i) (processAt (st .processes) (left (length (st .processes)) i))
   pub counted : Counted (st .processes) (st .envelope) t
-
--- just one flag is set, as a sum
-pub one-flag : (st : State) (t : Totals) → Invariant st t → sum flagsSet (st .processes) ≡ 1
-one-flag st t inv = sym (places-sum (st .processes)) ∙ inv .fits .rest .one-place

@@ -21,13 +21,14 @@ use Rattle.machine.specs.Stages.{sending, filled, receiving}
 use Rattle.machine.specs.Events.{Event, react, processAt, place, reaction, outcome, apply}
 use Rattle.machine.specs.Run.{counted, countsFrom, after}
 use Rattle.machine.specs.Balance.{filledBy, takenBy, filledFrom, takenFrom, ownMessage, Totals, totalsOf, onRing}
+use Rattle.machine.specs.Balance.{inStages}
 use Rattle.machine.proofs.Lists.{and-first, and-second}
 use Rattle.machine.proofs.Sums.{marksFor, mark-counted}
 use Rattle.machine.proofs.Settled.{Fits}
 use Rattle.machine.proofs.Facts.{fits-at}
 use Rattle.machine.proofs.Placed.{length-placed, sum-placed}
 use Rattle.machine.proofs.Kept.{length-applied, facts-kept}
-use Rattle.machine.proofs.Balance.Clauses.{emptied, number, Counted, Invariant, one-flag}
+use Rattle.machine.proofs.Balance.Clauses.{emptied, Counted, Invariant}
 use Rattle.machine.proofs.Balance.Header.{react-only-holder}
 use Rattle.machine.proofs.Balance.Rest.{react-rests}
 use Rattle.machine.proofs.Balance.Claimed.{react-claims}
@@ -50,8 +51,8 @@ added code o t = totalsOf (counted code o (countsOf t)) (t .filled ++ filledBy o
 module _ (e : Envelope) (l : List Process) (i : ℕ) (r : Reaction) (below : i < length l) (code : ℕ) where
   -- processes in stages of a set change by the own one alone
   placed : (stages : ℕ → Bool)
-      → number stages (place l i r) + bit (stages (processAt l i .stage))
-      ≡ number stages l + bit (stages (r .process .stage))
+      → inStages stages (place l i r) + bit (stages (processAt l i .stage))
+      ≡ inStages stages l + bit (stages (r .process .stage))
   placed stages = sum-placed l i r below (λ p. bit (stages (p .stage))) (λ _ _. refl) (λ _ _. refl)
 
   counted-placed : (t : Totals) → Counted l e t
@@ -99,7 +100,7 @@ module _ (st : State) (t : Totals) (inv : Invariant st t) (v : Event)
         few = omega (arith, length-placed l i r, inv .few);
         fits = facts-kept st v below (inv .few) (inv .fits);
         rests =
-            rests-placed e l i r (inv .two) below (one-flag st t inv)
+            rests-placed e l i r (inv .two) below (inv .fits .rest .one-place)
             (react-only-holder e p fits-here (v .code) (v .message))
             (inv .rests) (react-rests e p fits-here own-mark (v .code) (v .message) (inv .rests i below));
         claimed =

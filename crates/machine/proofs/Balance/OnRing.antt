@@ -18,11 +18,13 @@ use Rattle.machine.specs.Bytes.{bit}
 use Rattle.machine.specs.Ring.{left, right}
 use Rattle.machine.specs.Fields.{Status, none, for}
 use Rattle.machine.specs.Stages.{filled}
+use Rattle.machine.specs.Sound.{places}
 use Rattle.machine.specs.Events.{requested, arrived, processAt, place}
+use Rattle.machine.specs.Balance.{inStages}
 use Rattle.machine.proofs.Ring.{left-other, right-left}
-use Rattle.machine.proofs.Sums.{sum, part-le, two-le, flagsSet}
+use Rattle.machine.proofs.Sums.{part-le, two-le, flagsSet}
 use Rattle.machine.proofs.Placed.{length-placed, sum-placed}
-use Rattle.machine.proofs.Balance.Clauses.{number, AtRest, unclaimed, HasAsked, awaits, holdsRequest}
+use Rattle.machine.proofs.Balance.Clauses.{AtRest, unclaimed, HasAsked, awaits, holdsRequest}
 use Rattle.machine.proofs.Balance.Clauses.{Handed}
 use Rattle.machine.proofs.Balance.Pairs.{either-for}
 use Rattle.machine.proofs.Around.{beside, placed-self, placed-other}
@@ -77,7 +79,7 @@ module _ (e : Envelope) (l : List Process) (i : ℕ) (r : Reaction) (two : 2 ≤
           (others j (omega (arith, length-placed l i r)) apart)
 
   -- A. Another process that has the envelope finds it as it was
-  pub rests-placed : sum flagsSet l ≡ 1 → OnlyHolder e (processAt l i) r
+  pub rests-placed : places l ≡ 1 → OnlyHolder e (processAt l i) r
       → ((j : ℕ) → j < length l → AtRest e (processAt l j))
       → AtRest (r .envelope) (r .process)
       → (j : ℕ) → j < length (place l i r) → AtRest (r .envelope) (processAt (place l i r) j)
@@ -91,16 +93,16 @@ module _ (e : Envelope) (l : List Process) (i : ℕ) (r : Reaction) (two : 2 ≤
           subst (λ (n : Envelope). AtRest n (processAt l j)) (sym same) (before j within)
 
   -- B. Where the envelope is unclaimed, the own process filled it or another one did before
-  pub claimed-placed : (unclaimed e ≡ true → 1 ≤ number filled l) → Claims e (processAt l i) r
+  pub claimed-placed : (unclaimed e ≡ true → 1 ≤ inStages filled l) → Claims e (processAt l i) r
       → unclaimed (r .envelope) ≡ true
-      → 1 ≤ number filled (place l i r)
+      → 1 ≤ inStages filled (place l i r)
   claimed-placed before owed claim = go (filled (r .process .stage)) refl
     where
-      placed : number filled (place l i r) + bit (filled (processAt l i .stage))
-          ≡ number filled l + bit (filled (r .process .stage))
+      placed : inStages filled (place l i r) + bit (filled (processAt l i .stage))
+          ≡ inStages filled l + bit (filled (r .process .stage))
       placed = sum-placed l i r below (λ p. bit (filled (p .stage))) (λ _ _. refl) (λ _ _. refl)
 
-      go : (b : Bool) → filled (r .process .stage) ≡ b → 1 ≤ number filled (place l i r)
+      go : (b : Bool) → filled (r .process .stage) ≡ b → 1 ≤ inStages filled (place l i r)
       go true inside =
           omega (arith, placed, ap bit inside, part-le (λ p. bit (filled (p .stage))) l i below)
       go false outside =

@@ -11,20 +11,22 @@ use lib.ListN.{length, length-append}
 use Rattle.machine.specs.declared.Envelope.{Envelope}
 use Rattle.machine.specs.declared.Process.{Process}
 use Rattle.machine.specs.Bytes.{bit}
+use Rattle.machine.specs.Lists.{sum}
 use Rattle.machine.specs.Ring.{left}
 use Rattle.machine.specs.Fields.{Status, for, count, blank}
 use Rattle.machine.specs.Image.{State}
 use Rattle.machine.specs.Stages.{filled}
+use Rattle.machine.specs.Sound.{places}
 use Rattle.machine.specs.Events.{positive, wanted, processAt}
 use Rattle.machine.specs.Stopped.{quiet, stopped, Stopped}
-use Rattle.machine.specs.Balance.{Totals, ownMessage}
+use Rattle.machine.specs.Balance.{Totals, inStages, ownMessage}
 use Rattle.machine.proofs.Lists.{or-second, all-at}
 use Rattle.machine.proofs.Bits.{bit-on}
-use Rattle.machine.proofs.Sums.{sum, some-part, parts-le, parts-none, flagsSet, mark-counted}
+use Rattle.machine.proofs.Sums.{some-part, parts-le, parts-none, flagsSet, mark-counted}
 use Rattle.machine.proofs.Facts.{fits-at}
 use Rattle.machine.proofs.Stopped.{means-stopped, quiet-nothing}
 use Rattle.machine.proofs.Ring.{left-below}
-use Rattle.machine.proofs.Balance.Clauses.{emptied, number, Rests, Invariant, one-flag}
+use Rattle.machine.proofs.Balance.Clauses.{emptied, Rests, Invariant}
 use Rattle.machine.proofs.Balance.Walk.{round}
 use Rattle.machine.proofs.Balance.Still.{refuted, Still, nothing-still, filled-rests}
 use Rattle.machine.proofs.Balance.Still.{rests-on, served, Unserved, rests-unserved}
@@ -48,7 +50,7 @@ uncounted e off =
     not-positive n (or-second (for (e .marker) (e .full)) (positive n) off)
 
 -- where just one flag is set, at most one process has a full envelope, and none if it is empty
-have-full : (status : Status) (l : List Process) → sum flagsSet l ≡ 1
+have-full : (status : Status) (l : List Process) → places l ≡ 1
     → sum (λ p. bit (status && p .have)) l ≤ bit status
 have-full true l one = omega (arith, parts-le (λ p. bit (p .have)) flagsSet l (λ j below. omega arith))
 have-full false l one = omega (arith, parts-none (λ p. 0) l (λ j below. refl))
@@ -85,7 +87,7 @@ module _ (st : State) (t : Totals) (inv : Invariant st t) (halt : Stopped st) wh
   -- a flag is set and nothing arrives, so a process has the envelope
   holder : (h : ℕ) × (h < size st) × (process st h .have ≡ true)
   holder =
-      let found = some-part flagsSet (st .processes) (omega (arith, one-flag st t inv)) in
+      let found = some-part flagsSet (st .processes) (omega (arith, inv .fits .rest .one-place)) in
       let nothing = ap bit (still-at (found .0) (found .1) .unreached) in
       (found .0, found .1, bit-on (process st (found .0) .have) (omega (arith, found .2, nothing)))
 
@@ -129,16 +131,16 @@ module _ (st : State) (t : Totals) (inv : Invariant st t) (halt : Stopped st) wh
       rests-unserved (st .envelope) (process st j) (fits-at st (inv .fits) j below) (still-at j below)
       (rests-at j below)
 
-  served-number : number (served (now st)) (st .processes) ≡ 0
+  served-number : inStages (served (now st)) (st .processes) ≡ 0
   served-number = parts-none _ (st .processes) (λ j below. ap bit (unserved-at j below .outside))
 
-  emptied-number : number emptied (st .processes) ≡ 0
+  emptied-number : inStages emptied (st .processes) ≡ 0
   emptied-number = parts-none _ (st .processes) (λ j below. ap bit (unserved-at j below .untaken))
 
   -- ---- 5. a full envelope has its sender
 
   -- clause B: nobody wants it, so a put that filled it hasn't ended
-  full-filled : now st ≡ true → 1 ≤ number filled (st .processes)
+  full-filled : now st ≡ true → 1 ≤ inStages filled (st .processes)
   full-filled is-full = inv .claimed (rw (unwanted, is-full))
 
   -- stopped and full, so a process is in stage 5
@@ -152,13 +154,13 @@ module _ (st : State) (t : Totals) (inv : Invariant st t) (halt : Stopped st) wh
       (found .0, found .1, filled-rests stage range at-rest (bit-on (filled stage) (found .2)))
 
   -- if it is full one put has filled it, and if it is empty none
-  filled-number : number filled (st .processes) ≡ bit (now st)
+  filled-number : inStages filled (st .processes) ≡ bit (now st)
   filled-number =
       let fills : Process → ℕ = λ p. bit (filled (p .stage)) in
       let here : Process → ℕ = λ p. bit (now st && p .have) in
       let most = parts-le fills here (st .processes) (λ j below. unserved-at j below .filler) in
-      let least = bit-most (now st) (number filled (st .processes)) full-filled in
-      omega (arith, least, most, have-full (now st) (st .processes) (one-flag st t inv))
+      let least = bit-most (now st) (inStages filled (st .processes)) full-filled in
+      omega (arith, least, most, have-full (now st) (st .processes) (inv .fits .rest .one-place))
 
   -- ---- 6. the numbers
 
@@ -172,6 +174,6 @@ module _ (st : State) (t : Totals) (inv : Invariant st t) (halt : Stopped st) wh
   pub ended : (t .sent ≡ t .got) × (t .got ≡ min (t .puts) (t .gets))
   ended = (same-ended, smaller (now st) served-number)
     where
-      smaller : (s : Status) → number (served s) (st .processes) ≡ 0 → t .got ≡ min (t .puts) (t .gets)
+      smaller : (s : Status) → inStages (served s) (st .processes) ≡ 0 → t .got ≡ min (t .puts) (t .gets)
       smaller true none = omega (arith, same-ended)
       smaller false none = omega (arith, same-ended)

@@ -13,11 +13,11 @@ use Rattle.machine.specs.Stages.{sending, filled, receiving}
 use Rattle.machine.specs.Fresh.{freshEnvelope, freshState}
 use Rattle.machine.specs.Events.{wanted, processAt}
 use Rattle.machine.specs.Run.{noCounts}
-use Rattle.machine.specs.Balance.{totalsOf}
+use Rattle.machine.specs.Balance.{totalsOf, inStages}
 use Rattle.machine.proofs.Fresh.{fresh-fits, length-fresh}
 use Rattle.machine.proofs.Sums.{parts-none}
 use Rattle.machine.proofs.Facts.{state-facts}
-use Rattle.machine.proofs.Balance.Clauses.{emptied, number, AtRest, HasAsked, awaits, Invariant}
+use Rattle.machine.proofs.Balance.Clauses.{emptied, AtRest, HasAsked, awaits, Invariant}
 
 -- ---- a record of the fresh ring
 
@@ -58,7 +58,7 @@ awaits-nothing have false = refl
 
 -- nobody is in stages that don't have stage 0
 none-under-way : (stages : ℕ → Bool) → stages 0 ≡ false → (n home : ℕ)
-    → number stages (freshState n home .processes) ≡ 0
+    → inStages stages (freshState n home .processes) ≡ 0
 none-under-way stages idle n home =
     parts-none (λ p. bit (stages (p .stage))) (freshState n home .processes)
     (λ i _. each-fresh (λ (p : Process). bit (stages (p .stage)) ≡ 0) (ap bit idle) (ap bit idle) n home i)

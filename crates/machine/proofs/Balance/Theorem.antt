@@ -1,30 +1,20 @@
 -- The third demand over events: after every list of events from the fresh ring the invariant holds, and what balances
 -- is read off it. Assumes nothing.
-use Prim.Native.Nat.{ℕ, _+_, _≤_, _<_}
-use mathlib.Core.Path.{_≡_, refl, ap}
-use mathlib.Core.Bool.{Bool, true}
-use mathlib.Core.List.{List, [], _∷_}
-use Rattle.machine.specs.declared.Process.{Process}
-use Rattle.machine.specs.Bytes.{bit}
+use Prim.Native.Nat.{ℕ, _≤_, _<_}
+use mathlib.Core.Path.{_≡_}
+use mathlib.Core.Bool.{true}
+use mathlib.Core.List.{List, []}
 use Rattle.machine.specs.Ring.{least, most}
 use Rattle.machine.specs.Image.{State}
-use Rattle.machine.specs.Stages.{sending, receiving}
 use Rattle.machine.specs.Fresh.{freshState}
 use Rattle.machine.specs.Events.{Event}
 use Rattle.machine.specs.Run.{noCounts, after}
-use Rattle.machine.specs.Balance.{Totals, totalsFrom, inStages, Balanced, onRing, EveryListBalances}
-use Rattle.machine.proofs.Sums.{sum}
+use Rattle.machine.specs.Balance.{Totals, totalsFrom, Balanced, onRing, EveryListBalances}
 use Rattle.machine.proofs.Fresh.{length-fresh}
-use Rattle.machine.proofs.Balance.Clauses.{number, Invariant}
+use Rattle.machine.proofs.Balance.Clauses.{Invariant}
 use Rattle.machine.proofs.Balance.Start.{fresh-invariant}
 use Rattle.machine.proofs.Balance.Kept.{events-kept}
 use Rattle.machine.proofs.Balance.Standstill.{ended}
-
--- processes in stages of a set are a sum
-pub in-stages-sum : (stages : ℕ → Bool) (l : List Process) → inStages stages l ≡ number stages l
-unfolding inStages sum
-in-stages-sum stages [] = refl
-in-stages-sum stages (p ∷ l) = ap (λ (n : ℕ). bit (stages (p .stage)) + n) (in-stages-sum stages l)
 
 -- what the invariant says of the demand
 pub balanced : (st : State) (t : Totals) → Invariant st t → Balanced st t
@@ -32,8 +22,8 @@ balanced st t inv =
     record {
       one-place = inv .fits .rest .one-place;
       messages = inv .counted .messages;
-      puts = rw (in-stages-sum sending (st .processes)) (inv .counted .puts);
-      gets = rw (in-stages-sum receiving (st .processes)) (inv .counted .gets);
+      puts = inv .counted .puts;
+      gets = inv .counted .gets;
       stopped = ended st t inv;
     }
 
