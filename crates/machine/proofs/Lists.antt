@@ -68,10 +68,6 @@ tabulate-more f i (suc n) =
 
 -- ---- every
 
-pub every-none : (f : ℕ → Bool) → every 0 f ≡ true
-unfolding every
-every-none f = refl
-
 pub every-more : (n : ℕ) (f : ℕ → Bool) → every (n + 1) f ≡ every n f && f n
 unfolding every
 every-more n f = rw (add-one n)

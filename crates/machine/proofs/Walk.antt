@@ -1,22 +1,22 @@
 -- One record more: what a walk over the records gathers, step by step. Assumes nothing.
 use Prim.Native.Nat.{ℕ, zero, suc, _+_, _*_, _/_, _%_, _^_, _≤_, _<_}
 use mathlib.Core.Path.{_≡_, refl, sym, ap, _∙_}
-use mathlib.Core.Bool.{true, _&&_}
+use mathlib.Core.Bool.{_&&_}
 use mathlib.Core.List.{List, [], _∷_, _++_}
 use native.Mathlib.Omega.{arith}
 use native.Mathlib.Numerals.{add-one}
-use native.Mathlib.Nat.{pow-suc, mul-comm, mul-assoc}
+use native.Mathlib.Nat.{pow-suc}
 use lib.ListN.{length}
 use lib.Dec.{lit<, lit≤}
 use lib.Count.{ones, onesIn, ones-step}
 use Rattle.machine.specs.declared.Process.{Process}
 use Rattle.machine.specs.Bytes.{bit}
-use Rattle.machine.specs.Lists.{tabulate, all, sum}
+use Rattle.machine.specs.Lists.{tabulate, sum}
 use Rattle.machine.specs.Fields.{Status, for}
 use Rattle.machine.specs.Image.{processIn, processesIn}
 use Rattle.machine.specs.Sound.{holds, recordRulesIn, recordsFit, places, stageFits, stagesFit, markedSet, ones64}
 use Rattle.machine.proofs.Bits.{bit-le}
-use Rattle.machine.proofs.Lists.{length-tabulate, tabulate-more, every-none, every-more, all-more}
+use Rattle.machine.proofs.Lists.{length-tabulate, tabulate-more, every-more, all-more}
 
 -- ---- the list of the processes
 
@@ -37,26 +37,14 @@ length-processes s n = length-tabulate (processIn s) 0 n
 
 -- ---- each thing gathered, with one more
 
-pub records-none : (s : List ℕ) → recordsFit s 0 ≡ true
-unfolding recordsFit
-records-none s = every-none _
-
 pub records-more : (s : List ℕ) (i : ℕ) → recordsFit s (i + 1) ≡ recordsFit s i && holds (recordRulesIn s i)
 unfolding recordsFit
 records-more s i = every-more i _
-
-pub stages-none : (status : Status) → stagesFit status [] ≡ true
-unfolding stagesFit all
-stages-none status = refl
 
 pub stages-more : (status : Status) (ps : List Process) (p : Process)
     → stagesFit status (ps ++ (p ∷ [])) ≡ stagesFit status ps && stageFits status (p .have) (p .stage)
 unfolding stagesFit
 stages-more status ps p = all-more _ ps p
-
-pub places-none : places [] ≡ 0
-unfolding sum
-places-none = refl
 
 pub places-more : (ps : List Process) (p : Process)
     → places (ps ++ (p ∷ [])) ≡ places ps + bit (p .have) + bit (p .arriving)
@@ -68,23 +56,6 @@ pub places-le : (ps : List Process) → places ps ≤ 2 * length ps
 unfolding sum
 places-le [] = lit≤ tt
 places-le (p ∷ ps) = omega (arith, places-le ps, bit-le (p .have), bit-le (p .arriving))
-
-pub marked-none : (s : Status) → markedSet s [] ≡ 0
-unfolding markedSet
-marked-none s = refl
-
--- process i is digit i
-pub marked-more : (s : Status) (ps : List Process) (p : Process)
-    → markedSet s (ps ++ (p ∷ [])) ≡ markedSet s ps + bit (for (p .mark) s) * 2 ^ length ps
-unfolding markedSet
-marked-more s [] p = omega arith
-marked-more s (q ∷ ps) p =
-    let b = bit (for (p .mark) s) in
-    let double : b * 2 ^ suc (length ps) ≡ 2 * (b * 2 ^ length ps) =
-    ap (λ (x : ℕ). b * x) (pow-suc 2 (length ps))
-    ∙ sym (mul-assoc b (2 ^ length ps) 2)
-    ∙ mul-comm (b * 2 ^ length ps) 2 in
-    omega (arith, marked-more s ps p)
 
 pub marked-lt : (s : Status) (ps : List Process) → markedSet s ps < 2 ^ length ps
 unfolding markedSet
