@@ -2,9 +2,9 @@
 -- image as the call itself does, and what is read back shows the same: the values fit their words, since messages have
 -- 32 bits and a run has at most 4,128,768 events. With a shorter slice a call leaves the image, and the number that it
 -- returns isn't 0, so that it shows nothing. So every call keeps what Calls.Reached says. Assumes nothing.
-use Prim.Native.Nat.{ℕ, suc, _+_, _-_, _^_, _≤_, _<_}
+use Prim.Native.Nat.{ℕ, suc, _-_, _^_, _≤_, _<_}
 use mathlib.Core.Path.{_≡_, refl, sym, ap, ap₂, subst, _∙_}
-use mathlib.Core.List.{List, [], _∷_, _++_}
+use mathlib.Core.List.{List, [], _∷_, _++_, map}
 use mathlib.Core.Logic.{_⊎_, inl, inr}
 use native.Mathlib.Omega.{arith}
 use lib.ListN.{length, replicate}
@@ -38,12 +38,11 @@ use Rattle.result.specs.Short.{tooShort}
 use Rattle.result.proofs.Read.{FitWords, values-read}
 use Rattle.result.proofs.Read.FitWords.{none, one}
 use Rattle.result.proofs.Told.{lent-as-left, done-told, refused-told, lent-untouched, short-told}
-use Rattle.calls.specs.Calls.{nothing, value, stepShows, runShows, plus}
-use Rattle.calls.specs.Calls.Call.{Step as StepCall, Run as RunCall}
-use Rattle.calls.specs.Demand.{SaysStopped}
+use Rattle.calls.specs.Calls.{Call, nothing, value, stepShows, runShows, plus}
+use Rattle.calls.specs.Calls.Call.{Step, Run, Stopped}
+use Rattle.calls.specs.Demand.{SaysStopped, given, GivenBytes}
 use Rattle.calls.specs.Suite.{HostCall, hostImage, hostImageAll, answerRead, hostAnswer, hostShown, hostShownAll}
-use Rattle.calls.specs.Suite.{TellsStopped, givenByHost, HostBytes, SuiteDemand}
-use Rattle.calls.specs.Suite.HostCall.{Step, Run, Stopped}
+use Rattle.calls.specs.Suite.{TellsStopped, SuiteDemand}
 use Rattle.calls.proofs.Messages.{outcome-small}
 use Rattle.calls.proofs.Shown.{plus-nothing, nothing-plus, plus-assoc, step-refused, run-refused}
 use Rattle.calls.proofs.Calls.{Reached, unchanged, call-kept}
@@ -153,22 +152,27 @@ module _ {n : ℕ} {image : List ℕ} {t : Totals} (before : Reached n image t) 
           )
           (done room)
 
-  host-call-kept : (c : HostCall) → Bytes (givenByHost c) → Reached n (hostImage image c) (plus t (hostShown image c))
+  host-call-kept : (c : Call) (result : List ℕ) → Bytes (given c)
+      → Reached n (hostImage image (record { call = c; result = result }))
+      (plus t (hostShown image (record { call = c; result = result })))
   unfolding stepAnswer runAnswer
-  host-call-kept (Step event result) bytes =
+  host-call-kept (Step event) result bytes =
       kept result _ (lit≤ tt) (stepShows event) (step-refused event) refl (stepVerdict image event)
       (step-fits image (before .small) event bytes) (stepImage image event)
-      (λ room. call-kept before (StepCall event) bytes)
-  host-call-kept (Run tape ledger result) bytes =
+      (λ room. call-kept before (Step event) bytes)
+  host-call-kept (Run tape ledger) result bytes =
       let left = lentWith result ledger (runLedger image tape ledger) in
       kept result _ (lit≤ tt) (λ a. runShows a left) (run-refused left) refl (runVerdict image tape ledger)
       (run-fits image (before .small) tape ledger) (runImage image tape ledger)
       (λ room.
       rw (← lent-as-left result room ledger {done = runLedger image tape ledger} refl)
-      (call-kept before (RunCall tape ledger) bytes))
-  host-call-kept (Stopped result) bytes = unchanged before
+      (call-kept before (Run tape ledger) bytes))
+  host-call-kept Stopped result bytes =
+      kept result [] (lit≤ tt) (λ a. nothing) (λ a refused. refl) refl Fine (λ fine. none) image
+      (λ room. unchanged before)
 
-host-calls-kept : (n : ℕ) (calls : List HostCall) (image : List ℕ) (t : Totals) → HostBytes calls → Reached n image t
+host-calls-kept : (n : ℕ) (calls : List HostCall) (image : List ℕ) (t : Totals)
+    → GivenBytes (map (λ c. c .call) calls) → Reached n image t
     → Reached n (hostImageAll image calls) (plus t (hostShownAll image calls))
 unfolding hostImageAll hostShownAll
 host-calls-kept n [] image t bytes before = subst (Reached n image) (sym (plus-nothing t)) before
@@ -176,7 +180,7 @@ host-calls-kept n (c ∷ calls) image t bytes before =
     let next = hostImage image c in
     subst (Reached n (hostImageAll next calls)) (plus-assoc t (hostShown image c) (hostShownAll next calls))
     (host-calls-kept n calls next (plus t (hostShown image c)) (λ k h. bytes (suc k) (omega arith))
-    (host-call-kept before c (bytes 0 (omega arith))))
+    (host-call-kept before (c .call) (c .result) (bytes 0 (omega arith))))
 
 -- ---- the demand
 

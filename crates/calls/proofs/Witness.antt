@@ -23,7 +23,6 @@ use Rattle.calls.specs.Calls.{Call, imageAfterAll, ledgerMessages, shown
 use Rattle.calls.specs.Calls.Call.{Step, Run, Stopped}
 use Rattle.calls.specs.Demand.{SaysStopped, Promised, given, GivenBytes}
 use Rattle.calls.specs.Suite.{HostCall, hostImageAll, hostShownAll, TellsStopped}
-use Rattle.calls.specs.Suite.HostCall.{Step as HostStep, Run as HostRun, Stopped as HostStopped}
 use Rattle.calls.proofs.Demand.{demand-three}
 
 -- a tape whose event 1 is at process 2
@@ -58,13 +57,17 @@ result = replicate 81 255
 abbrev short : List ℕ
 short = replicate 79 255
 
+-- a call by the host
+abbrev by : List ℕ → Call → HostCall
+by result c = record { call = c; result = result }
+
 -- the same calls by the host, a run and the step first with the short slice
 unfoldable pub hostCalls : List HostCall
 hostCalls =
-    HostStep [] result ∷ HostRun offRing [] result
-    ∷ HostRun (tapeOf firstTen) (replicate 12 255) short ∷ HostRun (tapeOf firstTen) (replicate 12 255) result
-    ∷ HostStopped result ∷ HostStep (event 0 1 0) short ∷ HostStep (event 0 1 0) result
-    ∷ HostRun (tapeOf (drop 8 lastTen)) (replicate 37 255) result ∷ HostStopped result ∷ []
+    by result (Step []) ∷ by result (Run offRing [])
+    ∷ by short (Run (tapeOf firstTen) (replicate 12 255)) ∷ by result (Run (tapeOf firstTen) (replicate 12 255))
+    ∷ by result Stopped ∷ by short (Step (event 0 1 0)) ∷ by result (Step (event 0 1 0))
+    ∷ by result (Run (tapeOf (drop 8 lastTen)) (replicate 37 255)) ∷ by result Stopped ∷ []
 
 -- they show the same to the host, and it is then told that the ring is stopped
 pub all-told :

@@ -1,6 +1,6 @@
--- Lists of calls: document 01, "A list of calls". What a call is, the image after it, and what it shows, which is read
--- from the call, from its answer and from the ledger buffer as a run returns it. The answers and buffers are those that
--- the calls' own contracts promise (machine/specs/Answers). Assumes nothing.
+-- Lists of calls: document 01, "A list of calls". What a call is, its answer, the image and the ledger buffer after it,
+-- and what it shows, which is read from the call, from its answer and from that ledger buffer. The answers and buffers
+-- are those that the calls' own contracts promise (machine/specs/Answers). Assumes nothing.
 use Prim.Native.Nat.{ℕ, _+_, _*_}
 use mathlib.Core.Bool.{Bool, not, cond, _&&_}
 use mathlib.Core.List.{List, [], _∷_, _++_}
@@ -9,7 +9,7 @@ use lib.Dec.{eqb}
 use Rattle.machine.specs.Bytes.{bit, number}
 use Rattle.machine.specs.Lists.{tabulate, join}
 use Rattle.machine.specs.Balance.{Totals}
-use Rattle.machine.specs.Answers.{Answer, stepAnswer, stepImage, runAnswer, runImage, runLedger}
+use Rattle.machine.specs.Answers.{Answer, stepAnswer, stepImage, runAnswer, runImage, runLedger, stoppedAnswer}
 
 -- a step with the event's bytes, a run with a tape and a ledger buffer, or stopped; each gets the image besides
 pub data Call : Type 0 where
@@ -17,7 +17,25 @@ pub data Call : Type 0 where
   Run : List ℕ → List ℕ → Call
   Stopped : Call
 
--- ---- the image
+-- ---- what a call answers and leaves
+
+-- its answer
+abbrev pub answerOf : List ℕ → Call → Answer
+answerOf image (Step event) = stepAnswer image event
+answerOf image (Run tape ledger) = runAnswer image tape ledger
+answerOf image Stopped = stoppedAnswer image
+
+-- the ledger buffer that is lent to it: only a run has one
+abbrev pub ledgerOf : Call → List ℕ
+ledgerOf (Step event) = []
+ledgerOf (Run tape ledger) = ledger
+ledgerOf Stopped = []
+
+-- and as it leaves it
+abbrev pub ledgerAfter : List ℕ → Call → List ℕ
+ledgerAfter image (Step event) = []
+ledgerAfter image (Run tape ledger) = runLedger image tape ledger
+ledgerAfter image Stopped = []
 
 -- the image as a call leaves it; stopped only reads it
 abbrev pub imageAfter : List ℕ → Call → List ℕ
@@ -84,13 +102,17 @@ runShows a ledger =
       taken = ledgerMessages 3 (value a 7) ledger;
     })
 
+-- any call, by an answer and a ledger buffer; stopped adds nothing
+abbrev pub callShows : Call → Answer → List ℕ → Totals
+callShows (Step event) a ledger = stepShows event a
+callShows (Run tape lent) a ledger = runShows a ledger
+callShows Stopped a ledger = nothing
+
 -- ---- what a list of calls shows
 
--- one call on an image; stopped adds nothing
+-- one call on an image, by its own answer and the ledger buffer as it leaves it
 abbrev pub shown : List ℕ → Call → Totals
-shown image (Step event) = stepShows event (stepAnswer image event)
-shown image (Run tape ledger) = runShows (runAnswer image tape ledger) (runLedger image tape ledger)
-shown image Stopped = nothing
+shown image c = callShows c (answerOf image c) (ledgerAfter image c)
 
 -- numbers added, messages one after the other
 abbrev pub plus : Totals → Totals → Totals

@@ -3,32 +3,27 @@
 -- number that it returns and from the result slice and the ledger as it leaves them. Assumes nothing.
 use Prim.Native.Nat.{ℕ, _*_, _≤_, _<_, min}
 use mathlib.Core.Path.{_≡_}
-use mathlib.Core.List.{List, [], _∷_, _++_}
-use lib.ListN.{length, getD}
+use mathlib.Core.List.{List, [], _∷_, _++_, map}
+use lib.ListN.{length}
 use Rattle.machine.specs.Bytes.{Bytes, number}
 use Rattle.machine.specs.Lists.{tabulate}
 use Rattle.machine.specs.Ring.{least, most, imageLength}
 use Rattle.machine.specs.Balance.{Totals}
-use Rattle.machine.specs.Answers.{Answer, freshImage, stepAnswer, stepImage, runAnswer, runImage, runLedger}
-use Rattle.machine.specs.Answers.{stoppedAnswer}
+use Rattle.machine.specs.Answers.{Answer, freshImage, stoppedAnswer}
 use Rattle.machine.specs.Host.{returned, resultAfter, lentWith}
-use Rattle.calls.specs.Calls.{nothing, stepShows, runShows, plus}
-use Rattle.calls.specs.Demand.{flagsSet, ownMessageIn}
+use Rattle.calls.specs.Calls.{Call, answerOf, ledgerOf, ledgerAfter, imageAfter, nothing, callShows, plus}
+use Rattle.calls.specs.Demand.{flagsSet, ownMessageIn, GivenBytes}
 
--- a step with the event's bytes, a run with a tape and a ledger buffer, or stopped; each with a result slice, of any
--- length, and with the image besides
-pub data HostCall : Type 0 where
-  Step : List ℕ → List ℕ → HostCall
-  Run : List ℕ → List ℕ → List ℕ → HostCall
-  Stopped : List ℕ → HostCall
+-- a call, with a result slice of any length
+pub record HostCall : Type 0 where
+  pub call : Call
+  pub result : List ℕ
 
 -- ---- the image
 
--- the image as a call leaves it; stopped only reads it
+-- the image as a call leaves it; with a short result slice it stays
 abbrev pub hostImage : List ℕ → HostCall → List ℕ
-hostImage image (Step event result) = lentWith result image (stepImage image event)
-hostImage image (Run tape ledger result) = lentWith result image (runImage image tape ledger)
-hostImage image (Stopped result) = image
+hostImage image c = lentWith (c .result) image (imageAfter image (c .call))
 
 -- the image goes from call to call
 unfoldable pub hostImageAll : List ℕ → List HostCall → List ℕ
@@ -45,12 +40,11 @@ answerRead n result = record { number = n; values = tabulate (λ k. number resul
 abbrev pub hostAnswer : Answer → List ℕ → Answer
 hostAnswer a result = answerRead (returned a result) (resultAfter a result)
 
--- one call on an image; stopped adds nothing
+-- one call on an image, by the answer as the host has it and the ledger buffer as the call leaves it
 abbrev pub hostShown : List ℕ → HostCall → Totals
-hostShown image (Step event result) = stepShows event (hostAnswer (stepAnswer image event) result)
-hostShown image (Run tape ledger result) =
-    runShows (hostAnswer (runAnswer image tape ledger) result) (lentWith result ledger (runLedger image tape ledger))
-hostShown image (Stopped result) = nothing
+hostShown image c =
+    callShows (c .call) (hostAnswer (answerOf image (c .call)) (c .result))
+    (lentWith (c .result) (ledgerOf (c .call)) (ledgerAfter image (c .call)))
 
 -- call after call
 unfoldable pub hostShownAll : List ℕ → List HostCall → Totals
@@ -71,20 +65,11 @@ pub record PromisedToHost (n : ℕ) (image : List ℕ) (t : Totals) : Type 0 whe
   pub stopped : (result : List ℕ) → TellsStopped image result
       → (t .sent ≡ t .got) × (t .got ≡ min (t .puts) (t .gets))
 
--- what a call is given to read beside the image
-abbrev pub givenByHost : HostCall → List ℕ
-givenByHost (Step event result) = event
-givenByHost (Run tape ledger result) = tape
-givenByHost (Stopped result) = []
-
--- and that these are bytes, for each call of a list; of ledgers and result slices nothing need be known
-abbrev pub HostBytes : List HostCall → Type 0
-HostBytes calls = (k : ℕ) → k < length calls → Bytes (givenByHost (getD calls k (Stopped [])))
-
 -- for every ring of 2 to 64, every home, every buffer with room for the image, and every list of the host's calls,
--- refused ones and short result slices included, or none, from what the fresh ring call writes
+-- refused ones and short result slices included, or none, from what the fresh ring call writes; of ledgers and result
+-- slices nothing need be known
 abbrev pub SuiteDemand : Type 0
 SuiteDemand =
     (n home : ℕ) → least ≤ n → n ≤ most → home < n → (buffer : List ℕ) → Bytes buffer → imageLength n ≤ length buffer
-    → (calls : List HostCall) → HostBytes calls
+    → (calls : List HostCall) → GivenBytes (map (λ c. c .call) calls)
     → PromisedToHost n (hostImageAll (freshImage n home buffer) calls) (hostShownAll (freshImage n home buffer) calls)
