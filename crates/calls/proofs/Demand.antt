@@ -79,13 +79,16 @@ says-stopped image fine says =
     let yes : bit (stopped (stateIn image)) ≡ 1 = ap (λ (a : Answer). value a 0) (rw fine at says) in
     bit-on (stopped (stateIn image)) (omega arith)
 
-pub promised : (n : ℕ) (image : List ℕ) (t : Totals) → Reached n image t → Promised n image t
-promised n image t here =
+-- by any claim that the ring is stopped, if it means a yes
+pub promised : (IsStopped : List ℕ → Type 0) (n : ℕ) (image : List ℕ) (t : Totals) → Reached n image t
+    → (IsStopped image → SaysStopped image)
+    → Promised IsStopped n image t
+promised IsStopped n image t here means =
     let all = balanced (stateIn image) t (here .invariant) in
     record {
       one-place = ap (flagsSet image) (sym (here .size)) ∙ flags-are-places image ∙ all .one-place;
       messages = rw (own-message-read image) (all .messages);
-      stopped = λ says. all .stopped (stopped-means (stateIn image) (says-stopped image (here .fine) says));
+      stopped = λ stops. all .stopped (stopped-means (stateIn image) (says-stopped image (here .fine) (means stops)));
     }
 
 -- ---- from the fresh ring
@@ -108,4 +111,4 @@ module _ (n home : ℕ) (two : least ≤ n) (few : n ≤ most) (below : home < n
 
 pub demand-three : ThirdDemand
 demand-three n home two few below buffer small room calls bytes =
-    promised n _ _ (all-reached n home two few below buffer small room calls bytes)
+    promised SaysStopped n _ _ (all-reached n home two few below buffer small room calls bytes) (λ says. says)

@@ -185,7 +185,7 @@ host-calls-kept n (c ∷ calls) image t bytes before =
 -- ---- the demand
 
 -- a host that reads 1 was answered yes
-module _ (image result : List ℕ) (fine : imageVerdict image ≡ Fine) where
+module _ (image : List ℕ) (fine : imageVerdict image ≡ Fine) where
   -- 1 for yes, 0 for no
   abbrev flag : ℕ
   flag = bit (stopped (stateIn image))
@@ -194,18 +194,18 @@ module _ (image result : List ℕ) (fine : imageVerdict image ≡ Fine) where
   unfolding stoppedAnswer
   the-answer = rw fine
 
-  tells-stopped : TellsStopped image result → SaysStopped image
+  tells-stopped : TellsStopped image → SaysStopped image
   unfolding tabulate
-  tells-stopped tells = go (lt-or-ge (length result) 80)
+  tells-stopped (result, zero, reads) = go (lt-or-ge (length result) 80)
     where
       go : (length result < 80) ⊎ (80 ≤ length result) → SaysStopped image
       go (inl short) =
           let ten = short-told result short Fine (flag ∷ []) refl .0 in
-          absurd (omega (arith, ten, rw the-answer at (tells .0)))
+          absurd (omega (arith, ten, rw the-answer at zero))
       go (inr room) =
           let fits : flag < 2 ^ 64 = omega (arith, bit-le (stopped (stateIn image))) in
           let read = done-read (flag ∷ []) (lit≤ tt) result room (one fits none) in
-          let told : flag ≡ 1 = sym (ap (λ (a : Answer). value a 0) read) ∙ (rw the-answer at (tells .1)) in
+          let told : flag ≡ 1 = sym (ap (λ (a : Answer). value a 0) read) ∙ (rw the-answer at reads) in
           the-answer ∙ ap (λ (m : ℕ). answer Fine (m ∷ [])) told
 
 pub suite-demand : SuiteDemand
@@ -215,9 +215,4 @@ suite-demand n home two few below buffer small room calls bytes =
     let shown = hostShownAll first calls in
     let reached = subst (Reached n last) (nothing-plus shown)
     (host-calls-kept n calls first nothing bytes (fresh-reached n home two few below buffer small room)) in
-    let all = promised n last shown reached in
-    record {
-      one-place = all .one-place;
-      messages = all .messages;
-      stopped = λ result tells. all .stopped (tells-stopped last result (reached .fine) tells);
-    }
+    promised TellsStopped n last shown reached (tells-stopped last (reached .fine))

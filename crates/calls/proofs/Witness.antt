@@ -72,10 +72,10 @@ hostCalls =
 -- they show the same to the host, and it is then told that the ring is stopped
 pub all-told :
     (hostShownAll ring hostCalls ≡ record { puts = 1; gets = 1; sent = 1; got = 1; filled = 7 ∷ []; taken = 7 ∷ [] })
-    × TellsStopped (hostImageAll ring hostCalls) result
+    × TellsStopped (hostImageAll ring hostCalls)
 unfolding rules ring firstTen lastTen offRing hostCalls hostImageAll hostShownAll ledgerMessages returned wordsOf
     resultBytes resultAfter lentWith
-all-told = (refl, (refl, refl))
+all-told = (refl, (result, refl, refl))
 
 -- ---- the demand speaks of this list
 
@@ -95,7 +95,7 @@ unfolding rules firstTen lastTen offRing calls
 given-bytes k h = are-bytes (given (getD calls k Stopped)) (all-at (λ c. octets (given c)) calls Stopped refl k h)
 
 -- so it promises this of it
-pub promised-here : Promised 2 (imageAfterAll ring calls) (shownByAll ring calls)
+pub promised-here : Promised SaysStopped 2 (imageAfterAll ring calls) (shownByAll ring calls)
 unfolding ring all
 promised-here =
     demand-three 2 0 (lit≤ tt) (lit≤ tt) (lit< tt) (replicate 32 255) (are-bytes (replicate 32 255) refl) (lit≤ tt)

@@ -1,13 +1,13 @@
 -- The third demand: document 01, "A list of calls". One claim about the whole list, read off the image's bytes and off
 -- what the calls showed. Assumes nothing.
-use Prim.Native.Nat.{ℕ, zero, suc, _+_, _≤_, _<_, min}
+use Prim.Native.Nat.{ℕ, zero, suc, _+_, _≤_, _<_}
 use mathlib.Core.Path.{_≡_}
 use mathlib.Core.List.{List, [], _∷_, _++_}
 use lib.ListN.{length, getD}
 use lib.Dec.{eqb}
 use Rattle.machine.specs.Bytes.{Bytes, bit, bitOf, number}
 use Rattle.machine.specs.Ring.{least, most, imageLength, recordAt}
-use Rattle.machine.specs.Balance.{Totals}
+use Rattle.machine.specs.Balance.{Totals, PairsEnded}
 use Rattle.machine.specs.Answers.{freshImage, stoppedAnswer}
 use Rattle.calls.specs.Calls.{Call, imageAfterAll, messageIf, shownByAll}
 use Rattle.calls.specs.Calls.Call.{Step, Run, Stopped}
@@ -30,11 +30,12 @@ abbrev pub SaysStopped : List ℕ → Type 0
 SaysStopped image = stoppedAnswer image ≡ record { number = 0; values = 1 ∷ [] }
 
 -- the envelope is in just one place; messages filled are those taken, in order, followed by the envelope's own exactly
--- when it is full; and if the ring is then stopped, puts ended = gets ended = the smaller of puts and gets started
-pub record Promised (n : ℕ) (image : List ℕ) (t : Totals) : Type 0 where
+-- when it is full; and if the ring is then stopped, as the caller learns it by IsStopped, puts ended = gets ended = the
+-- smaller of puts and gets started
+pub record Promised (IsStopped : List ℕ → Type 0) (n : ℕ) (image : List ℕ) (t : Totals) : Type 0 where
   pub one-place : flagsSet image n ≡ 1
   pub messages : t .filled ≡ t .taken ++ ownMessageIn image
-  pub stopped : SaysStopped image → (t .sent ≡ t .got) × (t .got ≡ min (t .puts) (t .gets))
+  pub stopped : IsStopped image → PairsEnded t
 
 -- what a call is given to read beside the image
 abbrev pub given : Call → List ℕ
@@ -52,4 +53,5 @@ abbrev pub ThirdDemand : Type 0
 ThirdDemand =
     (n home : ℕ) → least ≤ n → n ≤ most → home < n → (buffer : List ℕ) → Bytes buffer → imageLength n ≤ length buffer
     → (calls : List Call) → GivenBytes calls
-    → Promised n (imageAfterAll (freshImage n home buffer) calls) (shownByAll (freshImage n home buffer) calls)
+    → Promised SaysStopped n (imageAfterAll (freshImage n home buffer) calls)
+    (shownByAll (freshImage n home buffer) calls)

@@ -1,9 +1,9 @@
 -- Lists of the calls that the suite's host makes, and the third demand over them: document 01, "A list of calls", with
 -- step, run and stopped called through plain numbers and byte slices ("The tape"). What a call shows is read from the
 -- number that it returns and from the result slice and the ledger as it leaves them. Assumes nothing.
-use Prim.Native.Nat.{ℕ, _*_, _≤_, _<_, min}
+use Prim.Native.Nat.{ℕ, _*_, _≤_, _<_}
 use mathlib.Core.Path.{_≡_}
-use mathlib.Core.List.{List, [], _∷_, _++_, map}
+use mathlib.Core.List.{List, [], _∷_, map}
 use lib.ListN.{length}
 use Rattle.machine.specs.Bytes.{Bytes, number}
 use Rattle.machine.specs.Lists.{tabulate}
@@ -12,7 +12,7 @@ use Rattle.machine.specs.Balance.{Totals}
 use Rattle.machine.specs.Answers.{Answer, freshImage, stoppedAnswer}
 use Rattle.machine.specs.Host.{returned, resultAfter, lentWith}
 use Rattle.calls.specs.Calls.{Call, answerOf, ledgerOf, ledgerAfter, imageAfter, nothing, callShows, plus}
-use Rattle.calls.specs.Demand.{flagsSet, ownMessageIn, GivenBytes}
+use Rattle.calls.specs.Demand.{Promised, GivenBytes}
 
 -- a call, with a result slice of any length
 pub record HostCall : Type 0 where
@@ -53,17 +53,11 @@ hostShownAll image (c ∷ cs) = plus (hostShown image c) (hostShownAll (hostImag
 
 -- ---- the demand
 
--- the stopped call returns 0, and the first word of this result slice then reads 1
-abbrev pub TellsStopped : List ℕ → List ℕ → Type 0
-TellsStopped image result =
-    (returned (stoppedAnswer image) result ≡ 0) × (number (resultAfter (stoppedAnswer image) result) 0 8 ≡ 1)
-
--- as Promised, but a host learns that the ring is stopped from a result slice
-pub record PromisedToHost (n : ℕ) (image : List ℕ) (t : Totals) : Type 0 where
-  pub one-place : flagsSet image n ≡ 1
-  pub messages : t .filled ≡ t .taken ++ ownMessageIn image
-  pub stopped : (result : List ℕ) → TellsStopped image result
-      → (t .sent ≡ t .got) × (t .got ≡ min (t .puts) (t .gets))
+-- there is a result slice with which the stopped call returns 0, and whose first word then reads 1
+abbrev pub TellsStopped : List ℕ → Type 0
+TellsStopped image =
+    (result : List ℕ) × (returned (stoppedAnswer image) result ≡ 0)
+    × (number (resultAfter (stoppedAnswer image) result) 0 8 ≡ 1)
 
 -- for every ring of 2 to 64, every home, every buffer with room for the image, and every list of the host's calls,
 -- refused ones and short result slices included, or none, from what the fresh ring call writes; of ledgers and result
@@ -72,4 +66,5 @@ abbrev pub SuiteDemand : Type 0
 SuiteDemand =
     (n home : ℕ) → least ≤ n → n ≤ most → home < n → (buffer : List ℕ) → Bytes buffer → imageLength n ≤ length buffer
     → (calls : List HostCall) → GivenBytes (map (λ c. c .call) calls)
-    → PromisedToHost n (hostImageAll (freshImage n home buffer) calls) (hostShownAll (freshImage n home buffer) calls)
+    → Promised TellsStopped n (hostImageAll (freshImage n home buffer) calls)
+    (hostShownAll (freshImage n home buffer) calls)

@@ -19,7 +19,7 @@ use Rattle.machine.specs.Stages.{filled}
 use Rattle.machine.specs.Sound.{places}
 use Rattle.machine.specs.Events.{positive, wanted, processAt}
 use Rattle.machine.specs.Stopped.{quiet, stopped, Stopped}
-use Rattle.machine.specs.Balance.{Totals, inStages, ownMessage}
+use Rattle.machine.specs.Balance.{Totals, inStages, ownMessage, PairsEnded}
 use Rattle.machine.proofs.Lists.{or-second, all-at}
 use Rattle.machine.proofs.Bits.{bit-on}
 use Rattle.machine.proofs.Sums.{some-part, parts-le, parts-none, flagsSet, mark-counted}
@@ -171,7 +171,7 @@ module _ (st : State) (t : Totals) (inv : Invariant st t) (halt : Stopped st) wh
       omega (arith, lengths, length-own (now st) (st .envelope .message), filled-number, emptied-number)
 
   -- as many puts as gets have ended: all gets if it is full, all puts if it is empty
-  pub ended : (t .sent ≡ t .got) × (t .got ≡ min (t .puts) (t .gets))
+  pub ended : PairsEnded t
   ended = (same-ended, smaller (now st) served-number)
     where
       smaller : (s : Status) → inStages (served s) (st .processes) ≡ 0 → t .got ≡ min (t .puts) (t .gets)
