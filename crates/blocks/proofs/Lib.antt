@@ -3,6 +3,5 @@ pub mod Joined
 pub mod First
 pub mod Blocks
 pub mod Lengths
-pub mod Apart
 pub mod Ways
 pub mod Together

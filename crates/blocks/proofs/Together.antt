@@ -5,7 +5,6 @@ use mathlib.Core.Path.{_≡_, refl, sym, _∙_}
 use mathlib.Core.Bool.{Bool, true, false, _&&_, _||_}
 use mathlib.Core.List.{List}
 use native.Mathlib.Omega.{arith}
-use native.Mathlib.Nat.{mul-le-mul, le-refl}
 use lib.ListN.{getD}
 use lib.Bits.{bitOr}
 use lib.Dec.{eqb, ltb}
@@ -17,10 +16,6 @@ use Rattle.machine.proofs.Bytes.{number-4}
 use Rattle.machine.proofs.Lists.{and-first, and-second}
 use Rattle.span.proofs.Ored.{or-left, or-right}
 use Rattle.event.proofs.Bytes.{fits-read}
-
--- two numbers of 32 bits have a product of 64
-pub product-small : (a b : ℕ) → a ≤ 4294967295 → b ≤ 4294967295 → a * b ≤ 18446744065119617025
-product-small a b h i = mul-le-mul {n₁ = a} {m₁ = b} {n₂ = 4294967295} {m₂ = 4294967295} h i
 
 -- ---- one event: its first four bytes as a number are its process and what is coded above it
 
@@ -34,39 +29,41 @@ coded front = front - front % 256
 pub record Covers (gap any mixed : ℕ) (s : List ℕ) (at : ℕ) : Type 0 where
   pub codes : coded (number s at 4) ≤ any
   pub processes : process (number s at 4) + gap ≤ any
-  pub messages : coded (number s at 4) * number s (at + 4) 4 ≤ mixed
+  pub messages : (coded (number s at 4) ≡ 0 → ⊥) → number s (at + 4) 4 ≤ mixed
 
 -- with more, still
 covers-more : {gap any any₁ mixed mixed₁ at : ℕ} {s : List ℕ} → any ≤ any₁ → mixed ≤ mixed₁ → Covers gap any mixed s at
     → Covers gap any₁ mixed₁ s at
-covers-more h i u = record { codes = omega arith; processes = omega arith; messages = omega arith }
+covers-more h i u =
+    record { codes = omega arith; processes = omega arith; messages = λ some. omega (arith, u .messages some) }
 
 -- what a turn makes of it covers its event, and those before
 module _ (gap any mixed : ℕ) (s : List ℕ) (at k : ℕ) {front message : ℕ} (one : front ≡ number s (at + 8 * k) 4)
-    (two : message ≡ number s (at + 8 * k + 4) 4) where
+    (two : message ≡ number s (at + 8 * k + 4) 4) (beside : ℕ) where
   abbrev anyNext : ℕ
   anyNext = bitOr (bitOr any (coded front)) (process front + gap)
 
   abbrev mixedNext : ℕ
-  mixedNext = bitOr mixed (coded front * message)
+  mixedNext = bitOr mixed beside
 
   any-on : any ≤ anyNext
   any-on =
       let more = or-left (bitOr any (coded front)) (process front + gap) in
       omega (arith, or-left any (coded front))
 
-  here : Covers gap anyNext mixedNext s (at + 8 * k)
-  here =
-      let more = or-left (bitOr any (coded front)) (process front + gap) in
-      record {
-        codes = rw (← one) (omega (arith, or-right any (coded front)));
-        processes = rw (← one) (or-right (bitOr any (coded front)) (process front + gap));
-        messages = rw (← one, ← two) (or-right mixed (coded front * message));
-      }
+  module _ (is : (coded front ≡ 0 → ⊥) → beside ≡ message) where
+    here : Covers gap anyNext mixedNext s (at + 8 * k)
+    here =
+        let more = or-left (bitOr any (coded front)) (process front + gap) in
+        record {
+          codes = rw (← one) (omega (arith, or-right any (coded front)));
+          processes = rw (← one) (or-right (bitOr any (coded front)) (process front + gap));
+          messages = rw (← one, ← two) (λ some. omega (arith, is some, or-right mixed beside));
+        }
 
-  pub covers-on : ((i : ℕ) → i < k → Covers gap any mixed s (at + 8 * i))
-      → (i : ℕ) → i < k + 1 → Covers gap anyNext mixedNext s (at + 8 * i)
-  covers-on all = below-more _ k (λ i h. covers-more any-on (or-left mixed (coded front * message)) (all i h)) here
+    pub covers-on : ((i : ℕ) → i < k → Covers gap any mixed s (at + 8 * i))
+        → (i : ℕ) → i < k + 1 → Covers gap anyNext mixedNext s (at + 8 * i)
+    covers-on all = below-more _ k (λ i h. covers-more any-on (or-left mixed beside) (all i h)) here
 
 -- ---- where all is small, the event fits
 
@@ -111,9 +108,8 @@ module _ {limit : ℕ} (n codes gap any mixed : ℕ) (s : List ℕ) (bytes : Byt
         go true q = refl
         go false q =
             let ne = eqb-false code 0 q in
-            let some : 1 ≤ coded front = omega (arith, is, first) in
-            let more = mul-le-mul {n₁ = 1} {m₁ = message} {n₂ = coded front} {m₂ = message} some (le-refl message) in
-            eq-eqb message 0 (omega (arith, none, u .messages))
+            let some : coded front ≡ 0 → ⊥ = λ zero. omega (arith, is, first) in
+            eq-eqb message 0 (omega (arith, none, u .messages some))
 
     pub small-fits : eventFits codes n s at ≡ true
     small-fits =

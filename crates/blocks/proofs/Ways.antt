@@ -17,9 +17,8 @@ use Rattle.machine.specs.Tape.{check, covered, slotAt, blockNumber, blockCount,
 use Rattle.machine.specs.Refusals.{unless, orElse, first, eventFits, lengthVerdict, mostBlocks, mostEvents, blockFits}
 use Rattle.machine.specs.Refusals.{checkVerdict, numberVerdict, usedVerdict, unusedVerdict}
 use Rattle.machine.specs.Refusals.{blockVerdict, tapeVerdict, listVerdict}
-use Rattle.machine.proofs.Refusals.{unless-fine, second-fine}
-use Rattle.blocks.specs.declared.Counted.the-variants.{Done, Refused}
-use Rattle.blocks.specs.Counted.{countedAs, headVerdict, eventsOn}
+use Rattle.machine.proofs.Refusals.{unless-fine, second-fine, refused-first, else-else}
+use Rattle.blocks.specs.Counted.{headVerdict, eventsOn, Accepted}
 use Rattle.blocks.proofs.First.{first-from}
 use Rattle.blocks.proofs.Blocks.{fits-most, eventTest, slotTest, tape-fine}
 use Rattle.blocks.proofs.Lengths.{length-list}
@@ -43,7 +42,7 @@ module _ (unit least most : ℕ) (s : List ℕ) where
 
 module _ (s : List ℕ) (b : ℕ) {sum written : ℕ} (one : sum ≡ check (covered s b)) (two : written ≡ blockCheck s b) where
   pub head-damaged : (sum ≡ written → ⊥)
-      → Refused (refusal.Check b) ≡ countedAs (headVerdict s b) (blockCount s b)
+      → verdict.Refused (refusal.Check b) ≡ headVerdict s b
   unfolding checkVerdict
   head-damaged ne = rw (ne-eqb (check (covered s b)) (blockCheck s b) (λ e. ne (one ∙ e ∙ sym two)))
 
@@ -60,11 +59,11 @@ module _ (s : List ℕ) (b : ℕ) {sum written : ℕ} (one : sum ≡ check (cove
       equal : check (covered s b) ≡ blockCheck s b
       equal = sym one ∙ same ∙ two
 
-      pub head-fits : headFits ≡ true → Done count ≡ countedAs (headVerdict s b) (blockCount s b)
+      pub head-fits : headFits ≡ true → verdict.Fine ≡ headVerdict s b
       unfolding checkVerdict numberVerdict
-      head-fits e = rw (eq-eqb (check (covered s b)) (blockCheck s b) equal, ← fits-is, e, four)
+      head-fits e = rw (eq-eqb (check (covered s b)) (blockCheck s b) equal, ← fits-is, e)
 
-      pub head-unfit : headFits ≡ false → Refused (refusal.Block b) ≡ countedAs (headVerdict s b) (blockCount s b)
+      pub head-unfit : headFits ≡ false → verdict.Refused (refusal.Block b) ≡ headVerdict s b
       unfolding checkVerdict numberVerdict
       head-unfit e = rw (eq-eqb (check (covered s b)) (blockCheck s b) equal, ← fits-is, e)
 
@@ -78,11 +77,6 @@ module _ (r : Refusal) {fits rule : Bool} (is : fits ≡ rule) where
   test-fine e = rw (sym is ∙ e)
 
 -- ---- a block
-
--- tests in a row, however they are grouped
-else-else : (u v w : Verdict) → orElse u (orElse v w) ≡ orElse (orElse u v) w
-else-else verdict.Fine v w = refl
-else-else (verdict.Refused r) v w = refl
 
 module _ (codes n : ℕ) (s : List ℕ) (b : ℕ) where
   -- the head first, then the slots
@@ -129,9 +123,6 @@ module _ (codes n : ℕ) (s : List ℕ) (b : ℕ) where
 -- ---- a tape and a list: the length first, then a row of tests
 
 module _ (l : Verdict) (f : ℕ → Verdict) (k : ℕ) {v : Verdict} (is : v ≡ l) where
-  long-refused : {r : Refusal} → v ≡ verdict.Refused r → v ≡ orElse l (first f 0 k)
-  long-refused e = e ∙ rw (sym is ∙ e)
-
   -- where the tests before i are known to be fine
   row-from : (i : ℕ) → i ≤ k → ((j : ℕ) → j < i → f j ≡ verdict.Fine) → v ≡ verdict.Fine
       → first f i (k - i) ≡ orElse l (first f 0 k)
@@ -140,7 +131,7 @@ module _ (l : Verdict) (f : ℕ → Verdict) (k : ℕ) {v : Verdict} (is : v ≡
 module _ (codes n : ℕ) (s : List ℕ) {v : Verdict} (is : v ≡ lengthVerdict 512 1 mostBlocks s) where
   pub tape-length-refused : {r : Refusal} → v ≡ verdict.Refused r → v ≡ tapeVerdict codes n s
   unfolding tapeVerdict
-  tape-length-refused e = long-refused _ _ _ is e
+  tape-length-refused e = refused-first _ is e
 
   -- before the first block
   pub blocks-start : v ≡ verdict.Fine → first (blockVerdict codes n s) 0 (length s / 512 - 0) ≡ tapeVerdict codes n s
@@ -151,7 +142,7 @@ module _ (codes n : ℕ) (s : List ℕ) {v : Verdict} (is : v ≡ lengthVerdict 
 module _ (codes n : ℕ) (s : List ℕ) {v : Verdict} (is : v ≡ lengthVerdict 8 1 mostEvents s) where
   pub list-length-refused : {r : Refusal} → v ≡ verdict.Refused r → v ≡ listVerdict codes n s
   unfolding listVerdict
-  list-length-refused e = long-refused _ _ _ is e
+  list-length-refused e = refused-first _ is e
 
   -- before the first event that is not known to fit
   pub events-from : (known : ℕ) → known ≤ length s / 8
@@ -164,18 +155,10 @@ module _ (codes n : ℕ) (s : List ℕ) {v : Verdict} (is : v ≡ lengthVerdict 
 
 -- ---- how many events a tape has
 
-module _ (codes n : ℕ) (s : List ℕ) {v : Verdict} (is : v ≡ tapeVerdict codes n s) where
-  pub counted-refused : {r : Refusal} → v ≡ verdict.Refused r
-      → Refused r ≡ countedAs (tapeVerdict codes n s) (eventsOn s)
-  counted-refused e = rw (sym is ∙ e)
+module _ (s : List ℕ) (a : Accepted s) where
+  pub some-block : 1 ≤ length s / 512
+  some-block = tape-fine (a .codes) (a .n) s (a .fine) .some
 
-  module _ (fine : v ≡ verdict.Fine) where
-    pub some-block : 1 ≤ length s / 512
-    some-block = tape-fine codes n s (sym is ∙ fine) .some
-
-    pub counted-done : {count : ℕ} → count ≡ blockCount s (length s / 512 - 1)
-        → Done (63 * (length s / 512 - 1) + count) ≡ countedAs (tapeVerdict codes n s) (eventsOn s)
-    counted-done {count} e =
-        let events : 63 * (length s / 512 - 1) + count ≡ eventsOn s =
-        omega (arith, length-list s (tape-fine codes n s (sym is ∙ fine))) in
-        rw (sym is ∙ fine, events)
+  pub events-counted : {count : ℕ} → count ≡ blockCount s (length s / 512 - 1)
+      → 63 * (length s / 512 - 1) + count ≡ eventsOn s
+  events-counted e = omega (arith, length-list s (tape-fine (a .codes) (a .n) s (a .fine)))

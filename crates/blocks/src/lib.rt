@@ -12,16 +12,9 @@ ghost use mathlib.Core.Path.{_≡_};
 ghost use mathlib.Core.Bool.{true};
 ghost use Prim.Native.Nat.{ℕ, _+_, _*_, _≤_, _<_};
 ghost use lib.ListN.{length};
-ghost use Rattle.machine.specs.Tape.{blockCount};
 ghost use Rattle.machine.specs.Refusals as rule;
 ghost use Rattle.machine.specs.Refusals.{eventFits};
-ghost use Rattle.blocks.specs.Counted.{countedAs, headVerdict, eventsOn};
-
-// How many events a block or a tape has, or its refusal.
-pub enum Counted {
-    Done(usize),
-    Refused(Refusal),
-}
+ghost use Rattle.blocks.specs.Counted.{headVerdict, eventsOn, Accepted};
 
 // Internal: the length of a list or a tape: whole units, at least and at most so many; refused with 6.
 pub fn length_verdict(bytes: &[u8], unit: usize, least: usize, most: usize) -> Verdict
@@ -39,55 +32,57 @@ pub fn length_verdict(bytes: &[u8], unit: usize, least: usize, most: usize) -> V
 // The most blocks that a tape has.
 const MOST_BLOCKS: usize = 65536;
 
-// A block's head: how many of its slots are used. Refused with 7 for its check, 8 for its number or its count.
-fn head(tape: &[u8], b: usize) -> Counted
+// The verdict of a block's head: refused with 7 for its check, 8 for its number or its count.
+fn head_verdict(tape: &[u8], b: usize) -> Verdict
     requires { ⌜ 512 * b + 512 ≤ length (now tape) ⌝ }
-    ensures { λ r. ⌜ r ≡ countedAs (headVerdict (now (tape .entry)) b) (blockCount (now (tape .entry)) b) ⌝ }
+    ensures { λ r. ⌜ r ≡ headVerdict (now (tape .entry)) b ⌝ }
 {
     let start = 512 * b;
     let written = number_at(tape, start + 4);
     if check_of(tape, b) != written {
-        return Counted::Refused(Refusal::Check(b));
+        return Verdict::Refused(Refusal::Check(b));
     }
     let number = word_at(tape, start) as usize;
     let count = word_at(tape, start + 2) as usize;
     let last = b + 1 == tape.len() / 512;
     if (number == b) & (1 <= count) & (count <= 63) & ((count == 63) | last) {
-        Counted::Done(count)
+        Verdict::Fine
     } else {
-        Counted::Refused(Refusal::Block(b))
+        Verdict::Refused(Refusal::Block(b))
     }
 }
 
 // How many of so many events from `at` on are sure to fit: all, or none. They are tested all together: what is or-ed in
 // `any` stays below `limit` only if each process is below n, each code is one and the two bytes are zero, and `mixed`
-// stays 0 only if no message stands beside a code other than 0.
+// stays 0 only if no message stands beside a code other than 0. Both are 32 bits wide, so that four events go at once:
+// 1.3 instructions less for an event of a run.
 fn fitting(bytes: &[u8], at: usize, count: usize, n: usize, codes: u8) -> usize
     requires { ⌜ at + 8 * count ≤ length (now bytes) ⌝ }
     ensures { λ r. ⌜ (r ≤ count) × ((k : ℕ) → k < r → eventFits codes n (now (bytes .entry)) (at + 8 * k) ≡ true) ⌝ }
 {
     let limit = 256 * wide(codes);
-    let gap = if n < limit { limit - n } else { 0 };
-    let mut any: usize = 0;
-    let mut mixed: usize = 0;
+    let gap = if n < limit { limit - n } else { 0 } as u32;
+    let mut any: u32 = 0;
+    let mut mixed: u32 = 0;
     for k in 0..count {
-        let front = number_at(bytes, at + 8 * k) as usize;
-        let message = number_at(bytes, at + 8 * k + 4) as usize;
+        let front = number_at(bytes, at + 8 * k);
+        let message = number_at(bytes, at + 8 * k + 4);
         let process = front % 256;
         let coded = front - process;
+        let beside = if coded == 0 { 0 } else { message };
         any = any | coded | (process + gap);
-        mixed = mixed | coded * message;
+        mixed = mixed | beside;
     }
-    if (any < limit) & (mixed == 0) {
+    if (any < limit as u32) & (mixed == 0) {
         count
     } else {
         0
     }
 }
 
-// A tape's verdict, for n processes and so many codes. The slots that are not sure to fit are searched for the first
-// event that is refused, which leaves both loops. A head is counted or refused, so the innermost else is never reached.
-fn verdict_of(tape: &[u8], n: usize, codes: u8) -> Verdict
+// Internal: a tape's verdict, for n processes and so many codes. The slots that are not sure to fit are searched for the
+// first event that is refused, which leaves both loops.
+pub fn tape_verdict(tape: &[u8], n: usize, codes: u8) -> Verdict
     ensures { λ r. ⌜ r ≡ rule.tapeVerdict codes n (now (tape .entry)) ⌝ }
 {
     let mut verdict = length_verdict(tape, 512, 1, MOST_BLOCKS);
@@ -95,14 +90,12 @@ fn verdict_of(tape: &[u8], n: usize, codes: u8) -> Verdict
         return verdict;
     };
     'blocks: for b in 0..tape.len() / 512 {
-        let counted = head(tape, b);
-        let Counted::Done(count) = counted else {
-            let Counted::Refused(refusal) = counted else {
-                break 'blocks;
-            };
-            verdict = Verdict::Refused(refusal);
+        let head = head_verdict(tape, b);
+        let Verdict::Fine = head else {
+            verdict = head;
             break 'blocks;
         };
+        let count = word_at(tape, 512 * b + 2) as usize;
         let slots = 512 * b + 8;
         for j in fitting(tape, slots, count, n, codes)..count {
             if !Event::fits(tape, slots + 8 * j, n, codes) {
@@ -135,21 +128,12 @@ pub fn list_verdict(list: &[u8], n: usize, codes: u8) -> Verdict
     verdict
 }
 
-impl Counted {
-    // Internal: the tape's test: how many events it has, or the first refusal. A verdict is fine or refused, so the
-    // inner else is never reached.
-    pub fn of(tape: &[u8], n: usize, codes: u8) -> Counted
-        ensures { λ r. ⌜ r ≡ countedAs (rule.tapeVerdict codes n (now (tape .entry))) (eventsOn (now (tape .entry))) ⌝ }
-    {
-        let verdict = verdict_of(tape, n, codes);
-        let Verdict::Fine = verdict else {
-            let Verdict::Refused(refusal) = verdict else {
-                return Counted::Done(0);
-            };
-            return Counted::Refused(refusal);
-        };
-        let last = tape.len() / 512 - 1;
-        let count = word_at(tape, 512 * last + 2) as usize;
-        Counted::Done(63 * last + count)
-    }
+// Internal: how many events an accepted tape has: 63 a block, but in the last.
+pub fn event_count(tape: &[u8]) -> usize
+    requires { ⌜ Accepted (now tape) ⌝ }
+    ensures { λ r. ⌜ r ≡ eventsOn (now (tape .entry)) ⌝ }
+{
+    let last = tape.len() / 512 - 1;
+    let count = word_at(tape, 512 * last + 2) as usize;
+    63 * last + count
 }

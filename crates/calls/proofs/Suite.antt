@@ -34,7 +34,7 @@ use Rattle.machine.proofs.Refusals.{number-range, event-below, first-fine, seco
 use Rattle.ledger.specs.Bounds.{NoneAbove}
 use Rattle.ledger.proofs.Bounds.{none-above-le, none-above-start, counts-few}
 use Rattle.tape.proofs.Events.{length-events, events-few}
-use Rattle.result.specs.Short.{tooShort}
+use Rattle.refusal.specs.Verdicts.{refusalOf}
 use Rattle.result.proofs.Read.{FitWords, values-read}
 use Rattle.result.proofs.Read.FitWords.{none, one}
 use Rattle.result.proofs.Told.{lent-as-left, done-told, refused-told, lent-untouched, short-told}
@@ -79,7 +79,7 @@ module _ (values : List ℕ) (few : length values ≤ 10) (result : List ℕ) wh
     short-shows : length result < 80 → (v : Verdict) → shows (hostAnswer (answer v values) result) ≡ nothing
     short-shows short v =
         let tells = short-told result short v values refl in
-        refused (hostAnswer (answer v values) result) (omega (arith, tells .0, number-range (tooShort v) .0))
+        refused (hostAnswer (answer v values) result) (omega (arith, tells .0, number-range (refusalOf v) .0))
 
 -- ---- values fit their words
 

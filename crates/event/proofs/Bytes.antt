@@ -9,13 +9,12 @@ use lib.ListN.{length, getD}
 use lib.Dec.{eqb, ltb}
 use borrow.Author.Tests.{ne-eqb}
 use Rattle.machine.specs.declared.Refusal.the-variants as refusal
+use Rattle.machine.specs.declared.Verdict.the-variants.{Fine, Refused}
 use Rattle.machine.specs.Bytes.{number}
 use Rattle.machine.specs.Tape.{eventIn}
 use Rattle.machine.specs.Refusals.{codes, eventFits, eventVerdict}
 use Rattle.machine.proofs.Bytes.{zeros-2, zeros-number}
-use Rattle.event.specs.declared.Parsed.the-variants.{Done, Refused}
-use Rattle.event.specs.declared.Event.{Event}
-use Rattle.event.specs.Parsed.{eventOf, parsedAs}
+use Rattle.event.specs.Parsed.{eventOf}
 
 module _ (s : List ℕ) (at : ℕ) {process message : ℕ} (first : process ≡ getD s at 0)
     (last : message ≡ number s (at + 4) 4) where
@@ -33,17 +32,15 @@ module _ (s : List ℕ) (at : ℕ) {process message : ℕ} (first : process ≡ 
   event-read = rw (first, last)
 
 module _ (n : ℕ) (s : List ℕ) where
-  pub parsed-ragged : (length s ≡ 8 → ⊥)
-      → Refused (refusal.Event 0) ≡ parsedAs (eventVerdict codes n s) (eventIn s 0)
+  pub ragged-refused : (length s ≡ 8 → ⊥) → Refused (refusal.Event 0) ≡ eventVerdict codes n s
   unfolding eventVerdict
-  parsed-ragged h = rw (ne-eqb (length s) 8 h)
+  ragged-refused h = rw (ne-eqb (length s) 8 h)
 
   module _ {fits : Bool} (whole : length s ≡ 8) (test : fits ≡ eventFits codes n s 0) where
-    pub parsed-fits : fits ≡ true → {v : Event} → v ≡ eventOf (eventIn s 0)
-        → Done v ≡ parsedAs (eventVerdict codes n s) (eventIn s 0)
+    pub fitting-fine : fits ≡ true → Fine ≡ eventVerdict codes n s
     unfolding eventVerdict
-    parsed-fits h e = rw (whole, sym test ∙ h, e)
+    fitting-fine h = rw (whole, sym test ∙ h)
 
-    pub parsed-unfit : fits ≡ false → Refused (refusal.Event 0) ≡ parsedAs (eventVerdict codes n s) (eventIn s 0)
+    pub unfit-refused : fits ≡ false → Refused (refusal.Event 0) ≡ eventVerdict codes n s
     unfolding eventVerdict
-    parsed-unfit h = rw (whole, sym test ∙ h)
+    unfit-refused h = rw (whole, sym test ∙ h)

@@ -1,6 +1,5 @@
 -- Laws that the functions of this crate, and those above it, cite.
 pub mod Bytes
-pub mod Apart
 pub mod Codes
 pub mod Possible
 pub mod Next

@@ -3,6 +3,7 @@
 // Document 01, "The eight events".
 use machine::Outcome;
 use machine::Refusal;
+use machine::Verdict;
 use reaction::Reach;
 use reaction::Reaction;
 use reaction::put::put_at;
@@ -18,7 +19,7 @@ ghost use Rattle.machine.specs.Tape.{eventIn};
 ghost use Rattle.machine.specs.Refusals.{codes as known, eventFits, eventVerdict};
 ghost use Rattle.machine.specs.Events as rule;
 ghost use Rattle.record.specs.Words.{stageOf, shownProcess, shownEnvelope, Tidy, TidyHeader};
-ghost use Rattle.event.specs.Parsed.{eventOf, parsedAs};
+ghost use Rattle.event.specs.Parsed.{eventOf};
 ghost use Rattle.event.specs.Rows.{codesAt, needOf, startedBy, rowOf, Possible};
 ghost use Rattle.event.specs.Applied.{worked, Applicable, Reacts};
 
@@ -27,12 +28,6 @@ pub struct Event {
     pub process: usize,
     pub code: u8,
     pub message: u32,
-}
-
-// A single event's test: the event, or the refusal.
-pub enum Parsed {
-    Done(Event),
-    Refused(Refusal),
 }
 
 // Codes 0 to 3 as bits of byte 3, which is zero in a record.
@@ -220,8 +215,8 @@ impl Event {
         (wide(bytes[at]) < n) & (code < codes) & spare & ((code == 0) | no_message)
     }
 
-    // Internal: the event that stands in the eight bytes from `at` on.
-    pub fn read(bytes: &[u8], at: usize) -> Event
+    // Internal: the event whose fields stand in the eight bytes from `at` on.
+    pub fn parse(bytes: &[u8], at: usize) -> Event
         requires { ⌜ at + 8 ≤ length (now bytes) ⌝ }
         ensures { λ r. ⌜ r ≡ eventOf (eventIn (now (bytes .entry)) at) ⌝ }
     {
@@ -232,17 +227,17 @@ impl Event {
         }
     }
 
-    // Internal: a single event for n processes; refused with 5 at 0.
-    pub fn parse(bytes: &[u8], n: usize) -> Parsed
-        ensures { λ r. ⌜ r ≡ parsedAs (eventVerdict known n (now (bytes .entry))) (eventIn (now (bytes .entry)) 0) ⌝ }
+    // Internal: the verdict of a single event for n processes: refused with 5 at 0.
+    pub fn verdict(bytes: &[u8], n: usize) -> Verdict
+        ensures { λ r. ⌜ r ≡ eventVerdict known n (now (bytes .entry)) ⌝ }
     {
         if bytes.len() != 8 {
-            return Parsed::Refused(Refusal::Event(0));
+            return Verdict::Refused(Refusal::Event(0));
         }
         if Event::fits(bytes, 0, n, Event::CODES) {
-            Parsed::Done(Event::read(bytes, 0))
+            Verdict::Fine
         } else {
-            Parsed::Refused(Refusal::Event(0))
+            Verdict::Refused(Refusal::Event(0))
         }
     }
 

@@ -1,5 +1,7 @@
 -- What the fresh ring call's answer tells, in document 01's numbers and values. Assumes nothing.
 use mathlib.Core.List.{[]}
+use Rattle.machine.specs.declared.Refusal.{Refusal}
+use Rattle.machine.specs.declared.Refusal.the-variants as refusal
 use Rattle.machine.specs.declared.Verdict.the-variants as verdict
 use Rattle.machine.specs.Answers.{Answer, answer}
 use Rattle.image.specs.declared.FreshAnswer.{FreshAnswer}
@@ -9,3 +11,8 @@ use Rattle.image.specs.declared.FreshAnswer.the-variants.{Done, Refused}
 abbrev pub told : FreshAnswer → Answer
 told Done = answer verdict.Fine []
 told (Refused r) = answer (verdict.Refused r) []
+
+-- the refusal where it is refused; no other is asked for
+abbrev pub refusalOf : FreshAnswer → Refusal
+refusalOf Done = refusal.Output
+refusalOf (Refused r) = r

@@ -1,11 +1,13 @@
 // The ring type: its sizes, the neighbours of a process, and the fresh ring call.
 use machine::Refusal;
+use machine::Verdict;
+use refusal::refusal_of;
 use span::clear;
 ghost use mathlib.Core.Path.{_≡_};
 ghost use Prim.Native.Nat.{_<_};
 ghost use Rattle.machine.specs.Ring as rule;
-ghost use Rattle.machine.specs.Answers.{freshAnswer, freshImage};
-ghost use Rattle.image.specs.Fresh.{told};
+ghost use Rattle.machine.specs.Answers.{freshVerdict, freshAnswer, freshImage};
+ghost use Rattle.image.specs.Fresh.{told, refusalOf};
 
 // A ring of so many processes, numbered from 0.
 pub struct Ring {
@@ -16,6 +18,18 @@ pub struct Ring {
 pub enum FreshAnswer {
     Done,
     Refused(Refusal),
+}
+
+impl FreshAnswer {
+    // Internal: the refusal of a fresh ring call that is refused. No other is asked for it.
+    pub fn refusal(self) -> Refusal
+        ensures { λ r. ⌜ r ≡ refusalOf self ⌝ }
+    {
+        match self {
+            FreshAnswer::Refused(refusal) => refusal,
+            _ => Refusal::Output,
+        }
+    }
 }
 
 impl Ring {
@@ -31,22 +45,33 @@ impl Ring {
         (Ring::LEAST as u64 <= n) & (n <= Ring::MOST as u64)
     }
 
+    // Internal: the fresh ring's verdict: 1 for n, 2 for home, 3 for the buffer.
+    pub fn fresh_verdict(n: u64, home: u64, image: &[u8]) -> Verdict
+        ensures { λ r. ⌜ r ≡ freshVerdict n home (now (image .entry)) ⌝ }
+    {
+        if !Ring::fits(n) {
+            return Verdict::Refused(Refusal::Size);
+        }
+        if n <= home {
+            return Verdict::Refused(Refusal::Home);
+        }
+        if image.len() < 16 + 8 * n as usize {
+            return Verdict::Refused(Refusal::Short);
+        }
+        Verdict::Fine
+    }
+
     // The fresh ring call: an image of n processes that is all zero but for n and for the envelope at home, at the
-    // start of a buffer whose further bytes stay. Refused with 1 for n, 2 for home, 3 for the buffer.
+    // start of a buffer whose further bytes stay; or the refusal of its verdict.
     pub fn fresh(n: u64, home: u64, image: &mut [u8]) -> FreshAnswer
         ensures answer { λ r. ⌜ told r ≡ freshAnswer n home (now (image .entry)) ⌝ }
         ensures buffer { λ _. ⌜ now (image .exit) ≡ freshImage n home (now (image .entry)) ⌝ }
     {
-        if !Ring::fits(n) {
-            return FreshAnswer::Refused(Refusal::Size);
-        }
-        if n <= home {
-            return FreshAnswer::Refused(Refusal::Home);
-        }
+        let verdict = Ring::fresh_verdict(n, home, image);
+        let Verdict::Fine = verdict else {
+            return FreshAnswer::Refused(refusal_of(verdict));
+        };
         let count = 16 + 8 * n as usize;
-        if image.len() < count {
-            return FreshAnswer::Refused(Refusal::Short);
-        }
         let at = 16 + 8 * home as usize;
         clear(image, 0, count);
         image[0] = n as u8;

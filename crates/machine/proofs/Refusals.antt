@@ -18,7 +18,7 @@ use Rattle.machine.specs.Sound.{sound}
 use Rattle.machine.specs.Bytes.{number, zeros}
 use Rattle.machine.specs.Tape.{eventIn}
 use Rattle.machine.specs.Refusals.{numberOf, unless, orElse, sizeVerdict, homeVerdict, roomVerdict, imageVerdict}
-use Rattle.machine.specs.Refusals.{codes, eventFits, eventVerdict}
+use Rattle.machine.specs.Refusals.{codes, eventFits, eventVerdict, outputVerdict}
 use Rattle.machine.specs.Answers.{freshVerdict}
 use Rattle.machine.proofs.Bytes.{zeros-number}
 use Rattle.machine.proofs.Lists.{and-first, and-second}
@@ -49,6 +49,36 @@ first-fine (Refused r) w e = e
 pub second-fine : (v w : Verdict) → orElse v w ≡ Fine → w ≡ Fine
 second-fine Fine w e = e
 second-fine (Refused r) w e = absurd (let z : _≡_ {A = ℕ} 0 1 = cc in omega arith)
+
+-- ---- tests in a row, as code makes them: x is what it found for the rule's u
+
+pub refused-first : {x u : Verdict} {r : Refusal} (w : Verdict) → x ≡ u → x ≡ Refused r → x ≡ orElse u w
+refused-first w is e = e ∙ rw (sym is ∙ e)
+
+pub fine-then : {x y u w : Verdict} → x ≡ u → x ≡ Fine → y ≡ w → y ≡ orElse u w
+fine-then is e next = next ∙ rw (sym is ∙ e)
+
+-- however they are grouped
+pub else-else : (u v w : Verdict) → orElse u (orElse v w) ≡ orElse (orElse u v) w
+else-else Fine v w = refl
+else-else (Refused r) v w = refl
+
+-- two inputs, then an output
+module _ (u v : Verdict) (needed : ℕ) (output : List ℕ) where
+  -- the tests of all three
+  abbrev pub inTurn : Verdict
+  inTurn = orElse u (orElse v (outputVerdict needed output))
+
+  pub inputs-refuse : {r : Refusal} → orElse u v ≡ Refused r → inTurn ≡ Refused r
+  inputs-refuse e = else-else u v (outputVerdict needed output) ∙ rw e
+
+  pub output-refuses : orElse u v ≡ Fine → length output < needed → inTurn ≡ Refused refusal.Output
+  unfolding outputVerdict
+  output-refuses e few = else-else u v (outputVerdict needed output) ∙ rw (e, lt-leb needed (length output) few)
+
+  pub all-fine : orElse u v ≡ Fine → needed ≤ length output → inTurn ≡ Fine
+  unfolding outputVerdict
+  all-fine e room = else-else u v (outputVerdict needed output) ∙ rw (e, le-leb needed (length output) room)
 
 unless-le : (a b : ℕ) (r : Refusal) → unless (leb a b) r ≡ Fine → a ≤ b
 unless-le a b r e = leb-true a b (unless-fine (leb a b) r e)

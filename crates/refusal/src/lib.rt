@@ -1,7 +1,10 @@
-// A refusal's number and place, as the table has them. Document 01, "Where a call is turned down".
+// A refusal's number and place, as the table has them, and the refusal of a verdict. Document 01, "Where a call is turned
+// down".
 use machine::Refusal;
+use machine::Verdict;
 ghost use mathlib.Core.Path.{_≡_};
 ghost use Rattle.machine.specs.Refusals.{numberOf, placeOf};
+ghost use Rattle.refusal.specs.Verdicts.{refusalOf};
 
 // Internal: the table's number, 1 to 10.
 pub fn number_of(refusal: Refusal) -> usize
@@ -36,5 +39,16 @@ pub fn place_of(refusal: Refusal) -> usize
         Refusal::Block(b) => b,
         Refusal::Unused(b) => b,
         Refusal::Output => 0,
+    }
+}
+
+// Internal: a verdict's refusal. Where its tests refuse nothing it is 10, which comes last: a call is refused so whose
+// result slice is too short.
+pub fn refusal_of(verdict: Verdict) -> Refusal
+    ensures { λ r. ⌜ r ≡ refusalOf verdict ⌝ }
+{
+    match verdict {
+        Verdict::Fine => Refusal::Output,
+        Verdict::Refused(refusal) => refusal,
     }
 }

@@ -101,11 +101,11 @@ module _ (s tape ledger : List ℕ) (fine : imageVerdict s ≡ Fine) (few : leng
     told-as = says ∙ ap (λ (v : Verdict). answer v (countValues counts)) tape-decides
 
     -- a refusal is the tape's
-    pub run-refused : {r : Refusal} → a ≡ run-answer.Refused r
+    pub run-refused : {q r : Refusal} → a ≡ run-answer.Refused q → r ≡ run.refusalOf a
         → refusalLine r ≡ textBy tested (ranText (stateIn s) (runEvents tape))
-    run-refused {r} is =
+    run-refused {r = r} is found =
         refused-line tested (countValues counts) (ranText (stateIn s) (runEvents tape)) r
-        (sym (ap run.told is) ∙ told-as)
+        (rw (found ∙ ap run.refusalOf is) (sym (ap run.told is) ∙ told-as))
 
     module _ {c : Counts} (is : a ≡ run-answer.Done c) where
       accepted : tested ≡ Fine
@@ -147,11 +147,11 @@ module _ (s tape ledger : List ℕ) (fine : imageVerdict s ≡ Fine) (few : leng
         module _ {t : List ℕ} (left : t ≡ runImage s tape ledger) (b : StoppedAnswer)
             (told : stopped.told b ≡ stoppedAnswer t) where
           -- the image is accepted, so the stopped call isn't refused
-          pub stopped-refused : {r : Refusal} → b ≡ stopped-answer.Refused r
+          pub stopped-refused : {q r : Refusal} → b ≡ stopped-answer.Refused q → r ≡ stopped.refusalOf b
               → refusalLine r ≡ textBy tested (ranText (stateIn s) (runEvents tape))
-          stopped-refused {r} it =
+          stopped-refused {r = r} it found =
               refused-line Fine (bit at-rest ∷ []) (textBy tested (ranText (stateIn s) (runEvents tape))) r
-              (sym (ap stopped.told it) ∙ told ∙ state-after left)
+              (rw (found ∙ ap stopped.refusalOf it) (sym (ap stopped.told it) ∙ told ∙ state-after left))
 
           -- yes and no are the rule's
           pub stopped-says : (said : Bool) → stopped.told b ≡ answer Fine (bit said ∷ []) → at-rest ≡ said

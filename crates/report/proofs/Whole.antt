@@ -97,11 +97,12 @@ module _ (input buffer : List ℕ) (long : 528 ≤ length buffer) {n home : ℕ}
       ∙ rw (is-n, is-home)
 
   -- N or home is refused
-  pub fresh-refused : {r : Refusal} → a ≡ fresh-answer.Refused r → refusalLine r ≡ reportText input
+  pub fresh-refused : {q r : Refusal} → a ≡ fresh-answer.Refused q → r ≡ fresh.refusalOf a
+      → refusalLine r ≡ reportText input
   unfolding reportText reportVerdict
-  fresh-refused {r} is =
+  fresh-refused {r = r} is found =
       first-refuses (sizeVerdict (sizeGiven input)) (homeVerdict (sizeGiven input) (homeGiven input)) _ _ [] r
-      (sym (ap fresh.told is) ∙ told-as)
+      (rw (found ∙ ap fresh.refusalOf is) (sym (ap fresh.told is) ∙ told-as))
 
   module _ (is : a ≡ fresh-answer.Done) where
     both-fine : orElse (sizeVerdict (sizeGiven input)) (homeVerdict (sizeGiven input) (homeGiven input)) ≡ Fine

@@ -51,8 +51,7 @@ fn blocks_from(length: usize) -> usize
 }
 
 // The text of a tape of at most 64 blocks, performed from an image that is known to be sound: at the page's start. The
-// ledger has room for their 4,032 records of 12 bytes. A run is done or refused, and stopped is yes, no or refused, so the
-// innermost elses are never reached.
+// ledger has room for their 4,032 records of 12 bytes.
 fn run_text(image: &mut [u8], tape: &[u8], page: &mut [u8]) -> usize
     requires { ⌜ (imageVerdict (now image) ≡ verdict.Fine) × (length (now tape) ≤ 32768)
         × (125183 ≤ length (now page)) ⌝ }
@@ -64,25 +63,19 @@ fn run_text(image: &mut [u8], tape: &[u8], page: &mut [u8]) -> usize
     let mut ledger = [0; 48384];
     let ran = run(image, tape, &mut ledger);
     let RunAnswer::Done(counts) = ran else {
-        let RunAnswer::Refused(refusal) = ran else {
-            return put_refusal(page, Refusal::Length);
-        };
-        return put_refusal(page, refusal);
+        return put_refusal(page, ran.refusal());
     };
     let at_rest = stopped(image);
     let StoppedAnswer::Yes = at_rest else {
         let StoppedAnswer::No = at_rest else {
-            let StoppedAnswer::Refused(refusal) = at_rest else {
-                return put_refusal(page, Refusal::Unsound);
-            };
-            return put_refusal(page, refusal);
+            return put_refusal(page, at_rest.refusal());
         };
         return put_ran(page, &ledger, counts, false);
     };
     put_ran(page, &ledger, counts, true)
 }
 
-// The text of any input, at the page's start. A fresh ring is done or refused, so the inner else is never reached.
+// The text of any input, at the page's start.
 fn whole_text(input: &[u8], page: &mut [u8]) -> usize
     requires { ⌜ 125183 ≤ length (now page) ⌝ }
     ensures { λ r. ⌜ Piece (now (page .entry)) 0 (reportText (now (input .entry))) (now (page .exit)) r ⌝ }
@@ -90,10 +83,7 @@ fn whole_text(input: &[u8], page: &mut [u8]) -> usize
     let mut image = [0; 528];
     let fresh = Ring::fresh(given(input, 0), given(input, 1), &mut image);
     let FreshAnswer::Done = fresh else {
-        let FreshAnswer::Refused(refusal) = fresh else {
-            return put_refusal(page, Refusal::Size);
-        };
-        return put_refusal(page, refusal);
+        return put_refusal(page, fresh.refusal());
     };
     if MOST_INPUT < input.len() {
         return put_refusal(page, Refusal::Length);

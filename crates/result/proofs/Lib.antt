@@ -1,5 +1,4 @@
 -- Laws of the result slice.
 pub mod Words
 pub mod Told
-pub mod Short
 pub mod Read

@@ -17,7 +17,7 @@ use Rattle.machine.specs.Refusals.{numberOf, placeOf}
 use Rattle.machine.specs.Answers.{Answer, answer}
 use Rattle.machine.specs.Host.{takesResult, returned, resultBytes, resultAfter, lentWith}
 use Rattle.machine.proofs.Refusals.{number-range}
-use Rattle.result.specs.Short.{tooShort}
+use Rattle.refusal.specs.Verdicts.{refusalOf}
 
 -- what a call whose answer is a returns and leaves in its result slice
 abbrev pub Tells : Answer → List ℕ → ℕ → List ℕ → Type 0
@@ -80,19 +80,19 @@ module _ (result : List ℕ) (short : length result < 80) where
   unfolding lentWith
   lent-untouched before done = rw takes-not
 
-  number-short : (v : Verdict) (values : List ℕ) → numberOf (tooShort v) ≡ returned (answer v values) result
+  number-short : (v : Verdict) (values : List ℕ) → numberOf (refusalOf v) ≡ returned (answer v values) result
   unfolding returned
   number-short Fine values = rw takes-not
   number-short (Refused r) values =
       let some : eqb (numberOf r) 0 ≡ false = ne-eqb (numberOf r) 0 (λ none. omega (arith, number-range r .0)) in
       rw some
 
-  pub short-told : {n : ℕ} (v : Verdict) (values : List ℕ) → n ≡ numberOf (tooShort v)
+  pub short-told : {n : ℕ} (v : Verdict) (values : List ℕ) → n ≡ numberOf (refusalOf v)
       → Tells (answer v values) result n result
   unfolding resultAfter
   short-told v values number = (number ∙ number-short v values, rw takes-not)
 
-  pub short-left : (before done : List ℕ) {n : ℕ} (v : Verdict) (values : List ℕ) → n ≡ numberOf (tooShort v)
+  pub short-left : (before done : List ℕ) {n : ℕ} (v : Verdict) (values : List ℕ) → n ≡ numberOf (refusalOf v)
       → Leaves (answer v values) result before done n before result
   short-left before done v values number =
       let tells = short-told v values number in

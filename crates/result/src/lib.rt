@@ -1,9 +1,11 @@
 // The result slice of the suite's host: ten 64-bit words from its start. Document 01, "The tape", the sentences on the
 // suite's host.
 use machine::Refusal;
+use machine::Verdict;
 use record::byte::put_word;
 use refusal::number_of;
 use refusal::place_of;
+use refusal::refusal_of;
 ghost use mathlib.Core.Path.{_≡_};
 ghost use mathlib.Core.List.{[], _∷_};
 ghost use Prim.Native.Nat.{_≤_};
@@ -11,6 +13,7 @@ ghost use lib.ListN.{length};
 ghost use Rattle.machine.specs.Bytes.{splice};
 ghost use Rattle.machine.specs.Refusals.{numberOf, placeOf};
 ghost use Rattle.machine.specs.Host.{wordsOf, resultBytes};
+ghost use Rattle.refusal.specs.Verdicts.{refusalOf};
 
 // A result slice has at least so many bytes.
 pub const ROOM: usize = 80;
@@ -42,4 +45,12 @@ pub fn refused(result: &mut [u8], refusal: Refusal) -> u64
 {
     tell_one(result, place_of(refusal) as u64);
     number_of(refusal) as u64
+}
+
+// Internal: the number returned by a call whose result slice is too short, by the verdict of its tests: its refusal,
+// else 10.
+pub fn short(verdict: Verdict) -> u64
+    ensures { λ r. ⌜ r ≡ numberOf (refusalOf verdict) ⌝ }
+{
+    number_of(refusal_of(verdict)) as u64
 }

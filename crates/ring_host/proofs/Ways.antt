@@ -9,6 +9,7 @@ use lib.Dec.{lit≤}
 use Rattle.machine.specs.declared.Counts.{Counts}
 use Rattle.machine.specs.declared.Outcome.{Outcome}
 use Rattle.machine.specs.declared.Refusal.{Refusal}
+use Rattle.machine.specs.declared.Verdict.{Verdict}
 use Rattle.machine.specs.Bytes.{splice}
 use Rattle.machine.specs.Image.{sizeIn}
 use Rattle.machine.specs.Run.{outcomeNumber, outcomeMessage, countValues}
@@ -25,9 +26,9 @@ use Rattle.run.specs.Run as run
 use Rattle.stopped.specs.declared.StoppedAnswer.{StoppedAnswer}
 use Rattle.stopped.specs.declared.StoppedAnswer.the-variants as stopped-answer
 use Rattle.stopped.specs.Stopped as stopped
-use Rattle.result.specs.Short.{tooShort}
+use Rattle.refusal.specs.Verdicts.{refusalOf}
+use Rattle.refusal.proofs.Verdicts.{output-unmeasured}
 use Rattle.result.proofs.Words.{told-in-ten}
-use Rattle.result.proofs.Short.{output-unmeasured}
 use Rattle.result.proofs.Told.{Tells, lent-as-left, done-told, refused-told, lent-untouched, short-told}
 use Rattle.result.proofs.Told.{Leaves, done-left, refused-left, short-left}
 
@@ -38,19 +39,21 @@ module _ (image event result : List ℕ) where
   abbrev Stepped : ℕ → List ℕ → List ℕ → Type 0
   Stepped n t u = Leaves (stepAnswer image event) result image (stepImage image event) n t u
 
-  pub step-short : length result < 80 → {n : ℕ} {r : Refusal} → r ≡ tooShort (stepVerdict image event) → n ≡ numberOf r
+  pub step-short : length result < 80 → {n : ℕ} {v : Verdict} → v ≡ stepVerdict image event
+      → n ≡ numberOf (refusalOf v)
       → Stepped n image result
   unfolding stepAnswer
   step-short short is number =
-      short-left result short image (stepImage image event) (stepVerdict image event) _ (number ∙ ap numberOf is)
+      short-left result short image (stepImage image event) (stepVerdict image event) _ (number ∙ ap (λ v. numberOf (refusalOf v)) is)
 
   module _ (room : 80 ≤ length result) {t : List ℕ} (left : t ≡ stepImage image event) {a : StepAnswer}
       (says : step.told a ≡ stepAnswer image event) where
-    pub step-refused : {n : ℕ} {u : List ℕ} (r : Refusal) → a ≡ step-answer.Refused r → n ≡ numberOf r
+    pub step-refused : {n : ℕ} {u : List ℕ} {q r : Refusal} → a ≡ step-answer.Refused q → r ≡ step.refusalOf a
+        → n ≡ numberOf r
         → u ≡ splice result 0 (resultBytes (placeOf r ∷ []))
         → Stepped n t u
-    step-refused r is number wrote =
-        refused-left result room image left r (sym (ap step.told is) ∙ says) number wrote
+    step-refused {r = r} is found number wrote =
+        refused-left result room image left r (rw (found ∙ ap step.refusalOf is) (sym (ap step.told is) ∙ says)) number wrote
 
     pub step-done : {number message : ℕ} {u : List ℕ} (o : Outcome) → a ≡ step-answer.Done o
         → number ≡ outcomeNumber o → message ≡ outcomeMessage o
@@ -71,15 +74,15 @@ module _ (image tape ledger result : List ℕ) where
       × ((l ≡ lentWith result ledger (runLedger image tape ledger))
       × (u ≡ resultAfter (runAnswer image tape ledger) result)))
 
-  pub run-short : length result < 80 → {n : ℕ} {r : Refusal}
-      → r ≡ tooShort (orElse (imageVerdict image) (tapeVerdict codes (sizeIn image) tape))
-      → n ≡ numberOf r
+  pub run-short : length result < 80 → {n : ℕ} {v : Verdict}
+      → v ≡ orElse (imageVerdict image) (tapeVerdict codes (sizeIn image) tape)
+      → n ≡ numberOf (refusalOf v)
       → Ran n image ledger result
   unfolding runAnswer runVerdict
   run-short short is number =
       let tests = tapeVerdict codes (sizeIn image) tape in
       let unmeasured = output-unmeasured (imageVerdict image) tests (length (runRecords image tape)) ledger in
-      let tells = short-told result short (runVerdict image tape ledger) _ (number ∙ ap numberOf (is ∙ unmeasured)) in (
+      let tells = short-told result short (runVerdict image tape ledger) _ (number ∙ ap (λ v. numberOf (refusalOf v)) is ∙ ap numberOf unmeasured) in (
         tells .0,
         (
           lent-untouched result short image (runImage image tape ledger),
@@ -95,10 +98,11 @@ module _ (image tape ledger result : List ℕ) where
         (tells .0, (lent-as-left result room image left, (lent-as-left result room ledger entered, tells .1)))
 
     module _ {a : RunAnswer} (says : run.told a ≡ runAnswer image tape ledger) where
-      pub run-refused : {n : ℕ} {u : List ℕ} (r : Refusal) → a ≡ run-answer.Refused r → n ≡ numberOf r
+      pub run-refused : {n : ℕ} {u : List ℕ} {q r : Refusal} → a ≡ run-answer.Refused q → r ≡ run.refusalOf a
+          → n ≡ numberOf r
           → u ≡ splice result 0 (resultBytes (placeOf r ∷ []))
           → Ran n t l u
-      run-refused r is number wrote = ran (refused-told result room r (sym (ap run.told is) ∙ says) number wrote)
+      run-refused {r = r} is found number wrote = ran (refused-told result room r (rw (found ∙ ap run.refusalOf is) (sym (ap run.told is) ∙ says)) number wrote)
 
       pub run-done : {u : List ℕ} (c : Counts) → a ≡ run-answer.Done c
           → u ≡ splice result 0 (wordsOf (countValues c ++ replicate 2 0))
@@ -111,16 +115,17 @@ module _ (image tape ledger result : List ℕ) where
 -- ---- stopped
 
 module _ (image result : List ℕ) where
-  pub stopped-short : length result < 80 → {n : ℕ} {r : Refusal} → r ≡ tooShort (imageVerdict image) → n ≡ numberOf r
+  pub stopped-short : length result < 80 → {n : ℕ} {v : Verdict} → v ≡ imageVerdict image → n ≡ numberOf (refusalOf v)
       → Tells (stoppedAnswer image) result n result
   unfolding stoppedAnswer
-  stopped-short short is number = short-told result short (imageVerdict image) _ (number ∙ ap numberOf is)
+  stopped-short short is number = short-told result short (imageVerdict image) _ (number ∙ ap (λ v. numberOf (refusalOf v)) is)
 
   module _ (room : 80 ≤ length result) {a : StoppedAnswer} (says : stopped.told a ≡ stoppedAnswer image) where
-    pub stopped-refused : {n : ℕ} {u : List ℕ} (r : Refusal) → a ≡ stopped-answer.Refused r → n ≡ numberOf r
+    pub stopped-refused : {n : ℕ} {u : List ℕ} {q r : Refusal} → a ≡ stopped-answer.Refused q → r ≡ stopped.refusalOf a
+        → n ≡ numberOf r
         → u ≡ splice result 0 (resultBytes (placeOf r ∷ []))
         → Tells (stoppedAnswer image) result n u
-    stopped-refused r is number wrote = refused-told result room r (sym (ap stopped.told is) ∙ says) number wrote
+    stopped-refused {r = r} is found number wrote = refused-told result room r (rw (found ∙ ap stopped.refusalOf is) (sym (ap stopped.told is) ∙ says)) number wrote
 
     pub stopped-yes : {u : List ℕ} → a ≡ stopped-answer.Yes → u ≡ splice result 0 (resultBytes (1 ∷ []))
         → Tells (stoppedAnswer image) result 0 u

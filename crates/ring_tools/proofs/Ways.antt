@@ -7,6 +7,7 @@ use mathlib.Core.List.{List, [], _∷_}
 use lib.ListN.{length, replicate}
 use lib.Dec.{lit≤}
 use Rattle.machine.specs.declared.Refusal.{Refusal}
+use Rattle.machine.specs.declared.Verdict.{Verdict}
 use Rattle.machine.specs.Bytes.{splice}
 use Rattle.machine.specs.Tape.{listOf, tapeOf}
 use Rattle.machine.specs.Refusals.{numberOf, placeOf, orElse, codes, sizeVerdict, listVerdict, tapeVerdict}
@@ -19,40 +20,38 @@ use Rattle.image.specs.Fresh as fresh
 use Rattle.tape.specs.declared.Filled.{Filled}
 use Rattle.tape.specs.declared.Filled.the-variants as filled-answer
 use Rattle.tape.specs.Filled as filled
-use Rattle.result.specs.Short.{tooShort}
+use Rattle.refusal.specs.Verdicts.{refusalOf}
+use Rattle.refusal.proofs.Verdicts.{output-unmeasured}
 use Rattle.result.proofs.Words.{told-in-ten}
-use Rattle.result.proofs.Short.{output-unmeasured}
 use Rattle.result.proofs.Told.{Leaves, done-left, refused-left, short-left}
 
 -- ---- a short result slice
 
 module _ (result : List ℕ) (short : length result < 80) (n : ℕ) where
-  pub fresh-short : (home : ℕ) (image : List ℕ) {m : ℕ} {r : Refusal} → r ≡ tooShort (freshVerdict n home image)
-      → m ≡ numberOf r
+  pub fresh-short : (home : ℕ) (image : List ℕ) {m : ℕ} {v : Verdict} → v ≡ freshVerdict n home image
+      → m ≡ numberOf (refusalOf v)
       → Leaves (freshAnswer n home image) result image (freshImage n home image) m image result
   unfolding freshAnswer
   fresh-short home image is number =
-      short-left result short image (freshImage n home image) (freshVerdict n home image) _ (number ∙ ap numberOf is)
+      short-left result short image (freshImage n home image) (freshVerdict n home image) _ (number ∙ ap (λ v. numberOf (refusalOf v)) is)
 
-  pub write-short : (list output : List ℕ) {m : ℕ} {r : Refusal}
-      → r ≡ tooShort (orElse (sizeVerdict n) (listVerdict codes n list))
-      → m ≡ numberOf r
+  pub write-short : (list output : List ℕ) {m : ℕ} {v : Verdict} → v ≡ orElse (sizeVerdict n) (listVerdict codes n list)
+      → m ≡ numberOf (refusalOf v)
       → Leaves (writeAnswer n list output) result output (writeOutput n list output) m output result
   unfolding writeAnswer writeVerdict
   write-short list output is number =
       let unmeasured = output-unmeasured (sizeVerdict n) (listVerdict codes n list) (length (tapeOf list)) output in
       short-left result short output (writeOutput n list output) (writeVerdict n list output) _
-      (number ∙ ap numberOf (is ∙ unmeasured))
+      (number ∙ ap (λ v. numberOf (refusalOf v)) is ∙ ap numberOf unmeasured)
 
-  pub read-short : (tape output : List ℕ) {m : ℕ} {r : Refusal}
-      → r ≡ tooShort (orElse (sizeVerdict n) (tapeVerdict codes n tape))
-      → m ≡ numberOf r
+  pub read-short : (tape output : List ℕ) {m : ℕ} {v : Verdict} → v ≡ orElse (sizeVerdict n) (tapeVerdict codes n tape)
+      → m ≡ numberOf (refusalOf v)
       → Leaves (readAnswer n tape output) result output (readOutput n tape output) m output result
   unfolding readAnswer readVerdict
   read-short tape output is number =
       let unmeasured = output-unmeasured (sizeVerdict n) (tapeVerdict codes n tape) (length (listOf tape)) output in
       short-left result short output (readOutput n tape output) (readVerdict n tape output) _
-      (number ∙ ap numberOf (is ∙ unmeasured))
+      (number ∙ ap (λ v. numberOf (refusalOf v)) is ∙ ap numberOf unmeasured)
 
 -- ---- at least 80 bytes
 
@@ -60,11 +59,12 @@ module _ (result : List ℕ) (room : 80 ≤ length result) (before : List ℕ) {
     {a : Answer} where
   -- a fresh ring
   module _ {f : FreshAnswer} (says : fresh.told f ≡ a) where
-    pub fresh-refused : {m : ℕ} {u : List ℕ} (r : Refusal) → f ≡ fresh-answer.Refused r → m ≡ numberOf r
+    pub fresh-refused : {m : ℕ} {u : List ℕ} {q r : Refusal} → f ≡ fresh-answer.Refused q → r ≡ fresh.refusalOf f
+        → m ≡ numberOf r
         → u ≡ splice result 0 (resultBytes (placeOf r ∷ []))
         → Leaves a result before done m t u
-    fresh-refused r is number wrote =
-        refused-left result room before left r (sym (ap fresh.told is) ∙ says) number wrote
+    fresh-refused {r = r} is found number wrote =
+        refused-left result room before left r (rw (found ∙ ap fresh.refusalOf is) (sym (ap fresh.told is) ∙ says)) number wrote
 
     pub fresh-done : {u : List ℕ} → f ≡ fresh-answer.Done → u ≡ splice result 0 (wordsOf (replicate 10 0))
         → Leaves a result before done 0 t u
@@ -73,11 +73,12 @@ module _ (result : List ℕ) (room : 80 ≤ length result) (before : List ℕ) {
 
   -- writer and reader
   module _ {f : Filled} (says : filled.told f ≡ a) where
-    pub filled-refused : {m : ℕ} {u : List ℕ} (r : Refusal) → f ≡ filled-answer.Refused r → m ≡ numberOf r
+    pub filled-refused : {m : ℕ} {u : List ℕ} {q r : Refusal} → f ≡ filled-answer.Refused q → r ≡ filled.refusalOf f
+        → m ≡ numberOf r
         → u ≡ splice result 0 (resultBytes (placeOf r ∷ []))
         → Leaves a result before done m t u
-    filled-refused r is number wrote =
-        refused-left result room before left r (sym (ap filled.told is) ∙ says) number wrote
+    filled-refused {r = r} is found number wrote =
+        refused-left result room before left r (rw (found ∙ ap filled.refusalOf is) (sym (ap filled.told is) ∙ says)) number wrote
 
     pub filled-done : {u : List ℕ} (bytes : ℕ) → f ≡ filled-answer.Done bytes
         → u ≡ splice result 0 (resultBytes (bytes ∷ []))

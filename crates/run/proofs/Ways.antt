@@ -6,25 +6,20 @@ use mathlib.Core.Bool.{Bool, true, false}
 use mathlib.Core.List.{List, []}
 use lib.ListN.{length}
 use lib.Dec.{leb}
-use borrow.Author.Tests.{leb-true}
+use borrow.Author.Tests.{leb-true, leb-false}
 use Rattle.machine.specs.declared.Counts.{Counts}
 use Rattle.machine.specs.declared.Refusal.{Refusal}
 use Rattle.machine.specs.declared.Refusal.the-variants as refusal
+use Rattle.machine.specs.declared.Verdict.{Verdict}
 use Rattle.machine.specs.declared.Verdict.the-variants as verdict
 use Rattle.machine.specs.Bytes.{splice}
 use Rattle.machine.specs.Image.{sizeIn, stateIn, imageWith}
 use Rattle.machine.specs.Run.{noCounts, countsFrom, countValues, after}
-use Rattle.machine.specs.Refusals.{codes, imageVerdict, tapeVerdict, outputVerdict}
+use Rattle.machine.specs.Refusals.{orElse, codes, imageVerdict, tapeVerdict}
 use Rattle.machine.specs.Answers.{Answer, answer, runEvents, runRecords, runVerdict, runAnswer, runImage, runLedger}
-use Rattle.image.specs.declared.Ring.{Ring}
-use Rattle.sound.specs.declared.Checked.{Checked}
-use Rattle.sound.specs.declared.Checked.the-variants as checked
-use Rattle.sound.specs.Checked.{checkedAs}
-use Rattle.sound.proofs.Apart as image-test
-use Rattle.blocks.specs.declared.Counted.{Counted}
-use Rattle.blocks.specs.declared.Counted.the-variants as counted
-use Rattle.blocks.specs.Counted.{countedAs, eventsOn}
-use Rattle.blocks.proofs.Apart as tape-test
+use Rattle.machine.proofs.Refusals.{first-fine, second-fine, refused-first, fine-then}
+use Rattle.machine.proofs.Refusals.{inputs-refuse, output-refuses, all-fine}
+use Rattle.blocks.specs.Counted.{eventsOn, Accepted}
 use Rattle.play.specs.Playable.{Playable}
 
 module _ (s tape ledger : List ℕ) where
@@ -39,54 +34,56 @@ module _ (s tape ledger : List ℕ) where
   unfolding runAnswer runImage runLedger
   refused r is = (rw is, (rw is, rw is))
 
-  module _ {c : Checked} (test : c ≡ checkedAs (imageVerdict s) (sizeIn s)) where
-    pub image-refused : {r : Refusal} → c ≡ checked.Refused r → Meets (answer (verdict.Refused r) []) s ledger
-    unfolding runVerdict
-    image-refused {r} e = refused r (rw (image-test.refused-is (imageVerdict s) (sizeIn s) test e))
+  -- ---- the inputs' verdict
 
-    module _ {ring : Ring} (whole : c ≡ checked.Done ring) {d : Counted}
-        (read : d ≡ countedAs (tapeVerdict codes (ring .size) tape) (eventsOn tape)) where
-      fine : imageVerdict s ≡ verdict.Fine
-      fine = image-test.done-fine (imageVerdict s) (sizeIn s) test whole
+  -- the rule's
+  abbrev given : Verdict
+  given = orElse (imageVerdict s) (tapeVerdict codes (sizeIn s) tape)
 
-      size : ring .size ≡ sizeIn s
-      size = image-test.done-size (imageVerdict s) (sizeIn s) test whole
+  module _ {v : Verdict} (tested : v ≡ imageVerdict s) where
+    pub by-image : {r : Refusal} → v ≡ verdict.Refused r → v ≡ given
+    by-image e = refused-first (tapeVerdict codes (sizeIn s) tape) tested e
 
-      pub tape-refused : {r : Refusal} → d ≡ counted.Refused r → Meets (answer (verdict.Refused r) []) s ledger
+    pub by-tape : v ≡ verdict.Fine → {n : ℕ} {w : Verdict} → n ≡ sizeIn s → w ≡ tapeVerdict codes n tape → w ≡ given
+    by-tape e size found = fine-then tested e (found ∙ rw size)
+
+  -- ---- the call
+
+  pub run-refused : {r : Refusal} → given ≡ verdict.Refused r → Meets (answer (verdict.Refused r) []) s ledger
+  unfolding runVerdict
+  run-refused e =
+      refused _
+      (inputs-refuse (imageVerdict s) (tapeVerdict codes (sizeIn s) tape) (length (runRecords s tape)) ledger e)
+
+  module _ (fine : given ≡ verdict.Fine) where
+    accepted : tapeVerdict codes (sizeIn s) tape ≡ verdict.Fine
+    accepted = second-fine (imageVerdict s) _ fine
+
+    pub run-accepted : Accepted tape
+    run-accepted = record { codes = codes; n = sizeIn s; fine = accepted }
+
+    pub playable : {events : ℕ} → events ≡ eventsOn tape → Playable s tape events
+    playable all =
+        record { image-fine = first-fine (imageVerdict s) _ fine; tape-fine = accepted; counted = all }
+
+    module _ {room : Bool} (measured : room ≡ leb (length (runRecords s tape)) (length ledger)) where
+      pub ledger-refused : room ≡ false → Meets (answer (verdict.Refused refusal.Output) []) s ledger
       unfolding runVerdict
-      tape-refused {r} e =
-          let by = tape-test.refused-is (tapeVerdict codes (ring .size) tape) (eventsOn tape) read e in
-          refused r (rw (fine, rw size at by))
+      ledger-refused short =
+          refused refusal.Output
+          (output-refuses (imageVerdict s) (tapeVerdict codes (sizeIn s) tape) _ ledger fine
+          (leb-false _ _ (sym measured ∙ short)))
 
-      module _ {events : ℕ} (some : d ≡ counted.Done events) where
-        accepted : tapeVerdict codes (sizeIn s) tape ≡ verdict.Fine
-        accepted =
-            rw size at (tape-test.done-fine (tapeVerdict codes (ring .size) tape) (eventsOn tape) read some)
+      pub has-room : room ≡ true → length (runRecords s tape) ≤ length ledger
+      has-room enough = leb-true _ _ (sym measured ∙ enough)
 
-        pub playable : Playable s tape events
-        playable =
-            record {
-              image-fine = fine;
-              tape-fine = accepted;
-              counted = tape-test.done-events (tapeVerdict codes (ring .size) tape) (eventsOn tape) read some;
-            }
-
-        module _ {room : Bool} (measured : room ≡ leb (length (runRecords s tape)) (length ledger)) where
-          pub ledger-refused : room ≡ false → Meets (answer (verdict.Refused refusal.Output) []) s ledger
-          unfolding runVerdict outputVerdict
-          ledger-refused short = refused refusal.Output (rw (fine, accepted, sym measured ∙ short))
-
-          pub has-room : room ≡ true → length (runRecords s tape) ≤ length ledger
-          has-room enough = leb-true _ _ (sym measured ∙ enough)
-
-          pub run-done : room ≡ true → {n : Counts} {image records : List ℕ}
-              → n ≡ countsFrom noCounts (stateIn s) (runEvents tape)
-              → image ≡ imageWith s (after (stateIn s) (runEvents tape))
-              → records ≡ splice ledger 0 (runRecords s tape)
-              → Meets (answer verdict.Fine (countValues n)) image records
-          unfolding runAnswer runImage runLedger runVerdict outputVerdict
-          run-done enough counts wrote entered =
-              let fits = sym measured ∙ enough in (
-                rw (counts, fine, accepted, fits),
-                (wrote ∙ rw (fine, accepted, fits), entered ∙ rw (fine, accepted, fits)),
-              )
+      pub run-done : room ≡ true → {n : Counts} {image records : List ℕ}
+          → n ≡ countsFrom noCounts (stateIn s) (runEvents tape)
+          → image ≡ imageWith s (after (stateIn s) (runEvents tape))
+          → records ≡ splice ledger 0 (runRecords s tape)
+          → Meets (answer verdict.Fine (countValues n)) image records
+      unfolding runAnswer runImage runLedger runVerdict
+      run-done enough counts wrote entered =
+          let is = all-fine (imageVerdict s) (tapeVerdict codes (sizeIn s) tape) (length (runRecords s tape)) ledger fine
+          (has-room enough) in
+          (rw (counts, is), (wrote ∙ rw is, entered ∙ rw is))

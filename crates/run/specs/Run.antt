@@ -1,5 +1,7 @@
 -- What the run call's answer tells, in document 01's numbers and values. Assumes nothing.
 use mathlib.Core.List.{[]}
+use Rattle.machine.specs.declared.Refusal.{Refusal}
+use Rattle.machine.specs.declared.Refusal.the-variants as refusal
 use Rattle.machine.specs.declared.Verdict.the-variants as verdict
 use Rattle.machine.specs.Run.{countValues}
 use Rattle.machine.specs.Answers.{Answer, answer}
@@ -10,3 +12,8 @@ use Rattle.run.specs.declared.RunAnswer.the-variants.{Done, Refused}
 abbrev pub told : RunAnswer → Answer
 told (Done c) = answer verdict.Fine (countValues c)
 told (Refused r) = answer (verdict.Refused r) []
+
+-- the refusal where it is refused; no other is asked for
+abbrev pub refusalOf : RunAnswer → Refusal
+refusalOf (Done c) = refusal.Output
+refusalOf (Refused r) = r

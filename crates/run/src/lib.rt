@@ -1,15 +1,21 @@
 // The run call: an image, a tape and a ledger buffer. Everything is tested before a lent byte changes; then every event
 // is performed. Document 01, "The run".
-use blocks::Counted;
+use blocks::event_count;
+use blocks::tape_verdict;
 use event::Event;
 use machine::Counts;
 use machine::Refusal;
+use machine::Verdict;
 use measure::has_room;
 use play::play;
-use sound::Checked;
+use record::byte::wide;
+use refusal::refusal_of;
+use sound::image_verdict;
 ghost use mathlib.Core.Path.{_≡_};
+ghost use Rattle.machine.specs.Image.{sizeIn};
+ghost use Rattle.machine.specs.Refusals.{codes, imageVerdict, tapeVerdict, orElse};
 ghost use Rattle.machine.specs.Answers.{runAnswer, runImage, runLedger};
-ghost use Rattle.run.specs.Run.{told};
+ghost use Rattle.run.specs.Run.{told, refusalOf};
 
 // What the run call answers.
 pub enum RunAnswer {
@@ -17,9 +23,33 @@ pub enum RunAnswer {
     Refused(Refusal),
 }
 
+impl RunAnswer {
+    // Internal: the refusal of a run that is refused. No other is asked for it.
+    pub fn refusal(self) -> Refusal
+        ensures { λ r. ⌜ r ≡ refusalOf self ⌝ }
+    {
+        match self {
+            RunAnswer::Refused(refusal) => refusal,
+            _ => Refusal::Output,
+        }
+    }
+}
+
+// Internal: the verdict of a run's inputs: 3 or 4 for the image, 6 for the tape's length, block by block 7, 8, 5 and 9.
+// The ledger's stands apart, since it has to be measured.
+pub fn inputs_verdict(image: &[u8], tape: &[u8]) -> Verdict
+    ensures { λ r. ⌜ r ≡ orElse (imageVerdict (now (image .entry)))
+        (tapeVerdict codes (sizeIn (now (image .entry))) (now (tape .entry))) ⌝ }
+{
+    let verdict = image_verdict(image);
+    let Verdict::Fine = verdict else {
+        return verdict;
+    };
+    tape_verdict(tape, wide(image[0]), Event::CODES)
+}
+
 // The run call: the eight counts, the image after every event, and the records at the start of the ledger, whose
-// further bytes stay. Refused with 3 or 4 for the image, 6 for the tape's length, block by block 7, 8, 5 and 9, and 10
-// for a ledger that is too short. An answer of a lower layer is done or refused, so the inner else is never reached.
+// further bytes stay; or the refusal of its inputs' verdict, or 10 for a ledger that is too short.
 pub fn run(image: &mut [u8], tape: &[u8], ledger: &mut [u8]) -> RunAnswer
     ensures answer { λ r. ⌜ told r
         ≡ runAnswer (now (image .entry)) (now (tape .entry)) (now (ledger .entry)) ⌝ }
@@ -28,20 +58,11 @@ pub fn run(image: &mut [u8], tape: &[u8], ledger: &mut [u8]) -> RunAnswer
     ensures records { λ _. ⌜ now (ledger .exit)
         ≡ runLedger (now (image .entry)) (now (tape .entry)) (now (ledger .entry)) ⌝ }
 {
-    let checked = Checked::of(image);
-    let Checked::Done(ring) = checked else {
-        let Checked::Refused(refusal) = checked else {
-            return RunAnswer::Refused(Refusal::Unsound);
-        };
-        return RunAnswer::Refused(refusal);
+    let verdict = inputs_verdict(image, tape);
+    let Verdict::Fine = verdict else {
+        return RunAnswer::Refused(refusal_of(verdict));
     };
-    let counted = Counted::of(tape, ring.size, Event::CODES);
-    let Counted::Done(events) = counted else {
-        let Counted::Refused(refusal) = counted else {
-            return RunAnswer::Refused(Refusal::Length);
-        };
-        return RunAnswer::Refused(refusal);
-    };
+    let events = event_count(tape);
     if !has_room(image, tape, events, ledger.len()) {
         return RunAnswer::Refused(Refusal::Output);
     }

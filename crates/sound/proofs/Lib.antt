@@ -6,5 +6,3 @@ pub mod Walked
 pub mod One
 pub mod Fits
 pub mod Whole
-pub mod Ends
-pub mod Apart

@@ -1,4 +1,3 @@
 -- What this crate's contracts cite beside the rules.
 pub mod Demands
 pub mod Walk
-pub mod Checked

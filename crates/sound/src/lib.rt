@@ -2,6 +2,7 @@
 // its paragraph on soundness.
 use image::Ring;
 use machine::Refusal;
+use machine::Verdict;
 use record::byte::eight_at;
 use record::byte::wide;
 use std::num::wrapping_add_u64;
@@ -14,7 +15,6 @@ ghost use Rattle.machine.specs.Sound as rule;
 ghost use Rattle.machine.specs.Refusals.{imageVerdict};
 ghost use Rattle.sound.specs.Demands.{demandOf};
 ghost use Rattle.sound.specs.Walk.{walkedOn, Walked, countsIn};
-ghost use Rattle.sound.specs.Checked.{checkedAs};
 
 // What a walk over the records gathers: every bit that is left under a record's mask, their sum, which counts the have
 // and arriving flags where no other bit is left, and the sets of the processes marked for full and for empty.
@@ -23,12 +23,6 @@ pub struct Walk {
     pub flags: u64,
     pub full: u64,
     pub empty: u64,
-}
-
-// An image's test: the ring, or the refusal.
-pub enum Checked {
-    Done(Ring),
-    Refused(Refusal),
 }
 
 // A record's bits that must be 0, by its stage, with have and arriving, which are counted, and without news and the
@@ -157,28 +151,25 @@ pub fn is_sound(image: &[u8], n: usize) -> bool
     w.counts() == first / 0x100_0000
 }
 
-impl Checked {
-    // Internal: the ring of a sound image; refused with 3 for its length, 4 for its bytes.
-    pub fn of(image: &[u8]) -> Checked
-        ensures { λ r. ⌜ r ≡ checkedAs (imageVerdict (now (image .entry))) (sizeIn (now (image .entry))) ⌝ }
-    {
-        if image.len() < 16 {
-            return Checked::Refused(Refusal::Short);
-        }
-        let n = wide(image[0]);
-        if n < Ring::LEAST {
-            return Checked::Refused(Refusal::Unsound);
-        }
-        if Ring::MOST < n {
-            return Checked::Refused(Refusal::Unsound);
-        }
-        if image.len() < 16 + 8 * n {
-            return Checked::Refused(Refusal::Short);
-        }
-        if is_sound(image, n) {
-            Checked::Done(Ring { size: n })
-        } else {
-            Checked::Refused(Refusal::Unsound)
-        }
+// Internal: an image's verdict: refused with 3 for its length, 4 for its bytes.
+pub fn image_verdict(image: &[u8]) -> Verdict
+    ensures { λ r. ⌜ r ≡ imageVerdict (now (image .entry)) ⌝ }
+{
+    if image.len() < 16 {
+        return Verdict::Refused(Refusal::Short);
     }
+    let n = wide(image[0]);
+    if n < Ring::LEAST {
+        return Verdict::Refused(Refusal::Unsound);
+    }
+    if Ring::MOST < n {
+        return Verdict::Refused(Refusal::Unsound);
+    }
+    if image.len() < 16 + 8 * n {
+        return Verdict::Refused(Refusal::Short);
+    }
+    if !is_sound(image, n) {
+        return Verdict::Refused(Refusal::Unsound);
+    }
+    Verdict::Fine
 }

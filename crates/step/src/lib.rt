@@ -1,13 +1,15 @@
 // The step call: an image and one event. Document 01, "The eight events".
 use event::Event;
-use event::Parsed;
 use machine::Outcome;
 use machine::Refusal;
-use sound::Checked;
+use machine::Verdict;
+use record::byte::wide;
+use refusal::refusal_of;
+use sound::image_verdict;
 use turns::turns;
 ghost use mathlib.Core.Path.{_≡_};
-ghost use Rattle.machine.specs.Answers.{stepAnswer, stepImage};
-ghost use Rattle.step.specs.Step.{told};
+ghost use Rattle.machine.specs.Answers.{stepVerdict, stepAnswer, stepImage};
+ghost use Rattle.step.specs.Step.{told, refusalOf};
 
 // What the step call answers.
 pub enum StepAnswer {
@@ -15,25 +17,37 @@ pub enum StepAnswer {
     Refused(Refusal),
 }
 
-// The step call: the event's outcome, and the image as the event leaves it. Refused with 3 or 4 for the image, 5 for
-// the event. An answer of a lower layer is done or refused, so the inner else is never reached.
+impl StepAnswer {
+    // Internal: the refusal of a step that is refused. No other is asked for it.
+    pub fn refusal(self) -> Refusal
+        ensures { λ r. ⌜ r ≡ refusalOf self ⌝ }
+    {
+        match self {
+            StepAnswer::Refused(refusal) => refusal,
+            _ => Refusal::Output,
+        }
+    }
+}
+
+// Internal: the step's verdict: 3 or 4 for the image, 5 for the event.
+pub fn step_verdict(image: &[u8], event: &[u8]) -> Verdict
+    ensures { λ r. ⌜ r ≡ stepVerdict (now (image .entry)) (now (event .entry)) ⌝ }
+{
+    let verdict = image_verdict(image);
+    let Verdict::Fine = verdict else {
+        return verdict;
+    };
+    Event::verdict(event, wide(image[0]))
+}
+
+// The step call: the event's outcome, and the image as the event leaves it; or the refusal of its verdict.
 pub fn step(image: &mut [u8], event: &[u8]) -> StepAnswer
     ensures answer { λ r. ⌜ told r ≡ stepAnswer (now (image .entry)) (now (event .entry)) ⌝ }
     ensures buffer { λ _. ⌜ now (image .exit) ≡ stepImage (now (image .entry)) (now (event .entry)) ⌝ }
 {
-    let checked = Checked::of(image);
-    let Checked::Done(ring) = checked else {
-        let Checked::Refused(refusal) = checked else {
-            return StepAnswer::Refused(Refusal::Unsound);
-        };
-        return StepAnswer::Refused(refusal);
-    };
-    let parsed = Event::parse(event, ring.size);
-    let Parsed::Done(_) = parsed else {
-        let Parsed::Refused(refusal) = parsed else {
-            return StepAnswer::Refused(Refusal::Event(0));
-        };
-        return StepAnswer::Refused(refusal);
+    let verdict = step_verdict(image, event);
+    let Verdict::Fine = verdict else {
+        return StepAnswer::Refused(refusal_of(verdict));
     };
     // a run of one event, with a ledger too short for a record
     let mut none = [0u8; 1];

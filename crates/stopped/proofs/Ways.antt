@@ -15,11 +15,6 @@ use Rattle.machine.specs.Refusals.{imageVerdict}
 use Rattle.machine.specs.Answers.{answer, stoppedAnswer}
 use Rattle.machine.proofs.Lists.{and-first, and-second}
 use Rattle.machine.proofs.Refusals.{image-fine}
-use Rattle.image.specs.declared.Ring.{Ring}
-use Rattle.sound.specs.declared.Checked.{Checked}
-use Rattle.sound.specs.declared.Checked.the-variants as checked
-use Rattle.sound.specs.Checked.{checkedAs}
-use Rattle.sound.proofs.Apart.{refused-is, done-fine, done-size}
 use Rattle.stopped.specs.Stopped.{QuietAre}
 
 -- ---- the call
@@ -32,32 +27,27 @@ records-of s ok =
     let b = recordsFit s (sizeIn s) in
     and-second a b (and-first (a && b) (restFits (stateIn s)) ok)
 
-module _ (s : List ℕ) {c : Checked} (test : c ≡ checkedAs (imageVerdict s) (sizeIn s)) where
-  pub stopped-refused : {r : Refusal} → c ≡ checked.Refused r → answer (verdict.Refused r) [] ≡ stoppedAnswer s
+module _ (s : List ℕ) where
+  pub stopped-refused : {r : Refusal} → imageVerdict s ≡ verdict.Refused r
+      → answer (verdict.Refused r) [] ≡ stoppedAnswer s
   unfolding stoppedAnswer
-  stopped-refused e = rw (refused-is (imageVerdict s) (sizeIn s) test e)
+  stopped-refused e = rw e
 
-  module _ {ring : Ring} (whole : c ≡ checked.Done ring) where
-    fine : imageVerdict s ≡ verdict.Fine
-    fine = done-fine (imageVerdict s) (sizeIn s) test whole
-
-    size : ring .size ≡ sizeIn s
-    size = done-size (imageVerdict s) (sizeIn s) test whole
-
+  module _ (fine : imageVerdict s ≡ verdict.Fine) {n : ℕ} (size : n ≡ sizeIn s) where
     -- the whole image lies in the buffer, and its records' bytes are in range
-    pub may-walk : (ring .size ≤ 64) × (16 + 8 * ring .size ≤ length s) × (recordsFit s (ring .size) ≡ true)
+    pub may-walk : (n ≤ 64) × (16 + 8 * n ≤ length s) × (recordsFit s n ≡ true)
     may-walk =
         let image = image-fine s fine in
-        (omega (arith, size, image .size .most), omega (arith, size, image .room), rw size (records-of s (image .fits)))
+        (omega (arith, image .size .most), omega (arith, image .room), rw size (records-of s (image .fits)))
 
-    walked : {b : Bool} → QuietAre s (ring .size) b → b ≡ stopped (stateIn s)
+    walked : {b : Bool} → QuietAre s n b → b ≡ stopped (stateIn s)
     unfolding stopped stateIn
     walked quiet = quiet (envelopeIn s) ∙ rw size
 
-    pub stopped-yes : {b : Bool} → QuietAre s (ring .size) b → b ≡ true → answer verdict.Fine (1 ∷ []) ≡ stoppedAnswer s
+    pub stopped-yes : {b : Bool} → QuietAre s n b → b ≡ true → answer verdict.Fine (1 ∷ []) ≡ stoppedAnswer s
     unfolding stoppedAnswer
     stopped-yes quiet h = rw (fine, sym (walked quiet) ∙ h)
 
-    pub stopped-no : {b : Bool} → QuietAre s (ring .size) b → b ≡ false → answer verdict.Fine (0 ∷ []) ≡ stoppedAnswer s
+    pub stopped-no : {b : Bool} → QuietAre s n b → b ≡ false → answer verdict.Fine (0 ∷ []) ≡ stoppedAnswer s
     unfolding stoppedAnswer
     stopped-no quiet h = rw (fine, sym (walked quiet) ∙ h)

@@ -5,6 +5,8 @@ use mathlib.Core.Path.{_≡_}
 use mathlib.Core.Bool.{Bool}
 use mathlib.Core.List.{List, [], _∷_}
 use Rattle.machine.specs.declared.Envelope.{Envelope}
+use Rattle.machine.specs.declared.Refusal.{Refusal}
+use Rattle.machine.specs.declared.Refusal.the-variants as refusal
 use Rattle.machine.specs.declared.Verdict.the-variants as verdict
 use Rattle.machine.specs.Lists.{all}
 use Rattle.machine.specs.Image.{processesIn}
@@ -18,6 +20,12 @@ abbrev pub told : StoppedAnswer → Answer
 told Yes = answer verdict.Fine (1 ∷ [])
 told No = answer verdict.Fine (0 ∷ [])
 told (Refused r) = answer (verdict.Refused r) []
+
+-- the refusal where it is refused; no other is asked for
+abbrev pub refusalOf : StoppedAnswer → Refusal
+refusalOf Yes = refusal.Output
+refusalOf No = refusal.Output
+refusalOf (Refused r) = r
 
 -- b says whether events 2 to 7 are idle at the first n processes of an image, whatever the envelope
 abbrev pub QuietAre : List ℕ → ℕ → Bool → Type 0

@@ -1,21 +1,37 @@
 // The stopped call: yes exactly when no process has an event of the codes 2 to 7 that would do anything. Document 01,
 // "The eight events", its last paragraph.
 use machine::Refusal;
+use machine::Verdict;
 use record::byte::eight_at;
-use sound::Checked;
+use record::byte::wide;
+use refusal::refusal_of;
+use sound::image_verdict;
 ghost use mathlib.Core.Path.{_≡_};
 ghost use Prim.Native.Nat.{_+_, _*_, _≤_};
 ghost use lib.ListN.{length};
 ghost use mathlib.Core.Bool.{true};
 ghost use Rattle.machine.specs.Answers.{stoppedAnswer};
 ghost use Rattle.machine.specs.Sound.{recordsFit};
-ghost use Rattle.stopped.specs.Stopped.{told, QuietAre};
+ghost use Rattle.stopped.specs.Stopped.{told, refusalOf, QuietAre};
 
 // What the stopped call answers.
 pub enum StoppedAnswer {
     Yes,
     No,
     Refused(Refusal),
+}
+
+impl StoppedAnswer {
+    // Internal: the refusal of a stopped call that is refused. No other is asked for it.
+    pub fn refusal(self) -> Refusal
+        ensures { λ r. ⌜ r ≡ refusalOf self ⌝ }
+    {
+        match self {
+            StoppedAnswer::Yes => Refusal::Output,
+            StoppedAnswer::No => Refusal::Output,
+            StoppedAnswer::Refused(refusal) => refusal,
+        }
+    }
 }
 
 // Whether nothing waits at the first n processes: no news, no envelope and no request on a link, and no stage that main
@@ -35,21 +51,16 @@ fn are_quiet(image: &[u8], n: usize) -> bool
     (any & 0xC0_0600 == 0) & (stages == 0)
 }
 
-// The stopped call: whether the ring is stopped. Refused with 3 or 4 for the image. The test's answer is done or
-// refused, so the inner else is never reached.
+// The stopped call: whether the ring is stopped; or the refusal of the image's verdict.
 pub fn stopped(image: &[u8]) -> StoppedAnswer
     ensures { λ r. ⌜ told r ≡ stoppedAnswer (now (image .entry)) ⌝ }
 {
-    let checked = Checked::of(image);
-    let Checked::Done(ring) = checked else {
-        let Checked::Refused(refusal) = checked else {
-            return StoppedAnswer::Refused(Refusal::Unsound);
-        };
-        return StoppedAnswer::Refused(refusal);
+    let verdict = image_verdict(image);
+    let Verdict::Fine = verdict else {
+        return StoppedAnswer::Refused(refusal_of(verdict));
     };
-    if are_quiet(image, ring.size) {
-        StoppedAnswer::Yes
-    } else {
-        StoppedAnswer::No
+    if !are_quiet(image, wide(image[0])) {
+        return StoppedAnswer::No;
     }
+    StoppedAnswer::Yes
 }

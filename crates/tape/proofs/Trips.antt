@@ -6,7 +6,6 @@ use mathlib.Core.Path.{_≡_, refl}
 use mathlib.Core.List.{List, [], _∷_}
 use native.Mathlib.Omega.{arith}
 use lib.ListN.{length, getD, set, take}
-use borrow.Author.Tests.{le-leb}
 use Rattle.machine.specs.declared.Refusal.the-variants as refusal
 use Rattle.machine.specs.declared.Verdict.{Verdict}
 use Rattle.machine.specs.declared.Verdict.the-variants.{Fine, Refused}
@@ -14,25 +13,24 @@ use Rattle.machine.specs.Bytes.{splice, Bytes}
 use Rattle.machine.specs.Tape.{listOf, tapeOf}
 use Rattle.machine.specs.Refusals.{orElse, codes, sizeVerdict, listVerdict, tapeVerdict, outputVerdict}
 use Rattle.machine.specs.Answers.{answer, writeVerdict, writeAnswer, writeOutput, readVerdict, readAnswer, readOutput}
-use Rattle.machine.proofs.Refusals.{first-fine, second-fine}
+use Rattle.machine.proofs.Refusals.{first-fine, second-fine, inTurn, all-fine}
 use Rattle.span.proofs.Splices.{part-written}
-use Rattle.tape.proofs.Ways.{tests}
 use Rattle.tape.proofs.Round.{written-accepted, read-written, read-accepted, written-read}
 use Rattle.tape.proofs.Damage.{one-byte}
 
 module _ (n : ℕ) (input : Verdict) (needed : ℕ) (output : List ℕ) where
   -- what accepted tests say, and what makes them accept
-  size-fine : tests n input needed output ≡ Fine → sizeVerdict n ≡ Fine
+  size-fine : inTurn (sizeVerdict n) input needed output ≡ Fine → sizeVerdict n ≡ Fine
   size-fine e = first-fine (sizeVerdict n) (orElse input (outputVerdict needed output)) e
 
-  input-fine : tests n input needed output ≡ Fine → input ≡ Fine
+  input-fine : inTurn (sizeVerdict n) input needed output ≡ Fine → input ≡ Fine
   input-fine e =
       let room = outputVerdict needed output in
       first-fine input room (second-fine (sizeVerdict n) (orElse input room) e)
 
-  tests-fine : sizeVerdict n ≡ Fine → input ≡ Fine → needed ≤ length output → tests n input needed output ≡ Fine
-  unfolding outputVerdict
-  tests-fine size accepted room = rw (size, accepted, le-leb needed (length output) room)
+  tests-fine : sizeVerdict n ≡ Fine → input ≡ Fine → needed ≤ length output
+      → inTurn (sizeVerdict n) input needed output ≡ Fine
+  tests-fine size accepted room = all-fine (sizeVerdict n) input needed output (rw (size, accepted)) room
 
 -- ---- the writer, then the reader
 

@@ -1,5 +1,7 @@
 -- The writer's and the reader's answer in document 01's own numbers. Assumes nothing.
 use mathlib.Core.List.{[], _∷_}
+use Rattle.machine.specs.declared.Refusal.{Refusal}
+use Rattle.machine.specs.declared.Refusal.the-variants as refusal
 use Rattle.machine.specs.declared.Verdict.the-variants as verdict
 use Rattle.machine.specs.Answers.{Answer, answer}
 use Rattle.tape.specs.declared.Filled.{Filled}
@@ -9,3 +11,8 @@ use Rattle.tape.specs.declared.Filled.the-variants.{Done, Refused}
 abbrev pub told : Filled → Answer
 told (Done filled) = answer verdict.Fine (filled ∷ [])
 told (Refused r) = answer (verdict.Refused r) []
+
+-- the refusal where it is refused; no other is asked for
+abbrev pub refusalOf : Filled → Refusal
+refusalOf (Done filled) = refusal.Output
+refusalOf (Refused r) = r

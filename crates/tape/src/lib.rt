@@ -1,22 +1,37 @@
 // The writer and reader calls: a list of event bytes made into a tape, and a tape read back. Document 01, "The tape".
-use blocks::Counted;
+use blocks::event_count;
 use blocks::list_verdict;
+use blocks::tape_verdict;
 use event::Event;
 use image::Ring;
 use machine::Refusal;
 use machine::Verdict;
 use pack::pack;
 use pack::unpack;
+use refusal::refusal_of;
 ghost use mathlib.Core.Path.{_≡_};
 ghost use Prim.Native.Nat.{_≤_};
 ghost use Rattle.machine.specs.Tape.{blocksFor};
+ghost use Rattle.machine.specs.Refusals.{orElse, codes, sizeVerdict, listVerdict, tapeVerdict};
 ghost use Rattle.machine.specs.Answers.{writeAnswer, writeOutput, readAnswer, readOutput};
-ghost use Rattle.tape.specs.Filled.{told};
+ghost use Rattle.tape.specs.Filled.{told, refusalOf};
 
 // What the writer and the reader answer: how many bytes of the output they filled.
 pub enum Filled {
     Done(usize),
     Refused(Refusal),
+}
+
+impl Filled {
+    // Internal: the refusal of a writer or reader call that is refused. No other is asked for it.
+    pub fn refusal(self) -> Refusal
+        ensures { λ r. ⌜ r ≡ refusalOf self ⌝ }
+    {
+        match self {
+            Filled::Refused(refusal) => refusal,
+            _ => Refusal::Output,
+        }
+    }
 }
 
 // How many blocks so many events take.
@@ -27,22 +42,26 @@ fn blocks_for(events: usize) -> usize
     (events + 62) / 63
 }
 
+// Internal: the verdict of what the writer is given: 1 for n, 6 for the list's length, 5 for an event. The output's
+// stands apart.
+pub fn write_verdict(n: u64, list: &[u8]) -> Verdict
+    ensures { λ r. ⌜ r ≡ orElse (sizeVerdict n) (listVerdict codes n (now (list .entry))) ⌝ }
+{
+    if !Ring::fits(n) {
+        return Verdict::Refused(Refusal::Size);
+    }
+    list_verdict(list, n as usize, Event::CODES)
+}
+
 // The writer call: the tape of a list of event bytes for n processes, at the start of the output, whose further bytes
-// stay. Refused with 1 for n, 6 for the list's length, 5 for an event, 10 for the output. A verdict is fine or refused,
-// so the inner else is never reached; the reader's likewise.
+// stay; or the refusal of its inputs' verdict, or 10 for the output.
 pub fn write(n: u64, list: &[u8], output: &mut [u8]) -> Filled
     ensures answer { λ r. ⌜ told r ≡ writeAnswer n (now (list .entry)) (now (output .entry)) ⌝ }
     ensures buffer { λ _. ⌜ now (output .exit) ≡ writeOutput n (now (list .entry)) (now (output .entry)) ⌝ }
 {
-    if !Ring::fits(n) {
-        return Filled::Refused(Refusal::Size);
-    }
-    let verdict = list_verdict(list, n as usize, Event::CODES);
+    let verdict = write_verdict(n, list);
     let Verdict::Fine = verdict else {
-        let Verdict::Refused(refusal) = verdict else {
-            return Filled::Done(0);
-        };
-        return Filled::Refused(refusal);
+        return Filled::Refused(refusal_of(verdict));
     };
     let blocks = blocks_for(list.len() / 8);
     let tape_length = 512 * blocks;
@@ -53,23 +72,28 @@ pub fn write(n: u64, list: &[u8], output: &mut [u8]) -> Filled
     Filled::Done(tape_length)
 }
 
+// Internal: the verdict of what the reader is given: 1 for n, 6 for the tape's length, block by block 7, 8, 5 and 9. The
+// output's stands apart.
+pub fn read_verdict(n: u64, tape: &[u8]) -> Verdict
+    ensures { λ r. ⌜ r ≡ orElse (sizeVerdict n) (tapeVerdict codes n (now (tape .entry))) ⌝ }
+{
+    if !Ring::fits(n) {
+        return Verdict::Refused(Refusal::Size);
+    }
+    tape_verdict(tape, n as usize, Event::CODES)
+}
+
 // The reader call: the list of event bytes of a tape for n processes, at the start of the output, whose further bytes
-// stay. Refused with 1 for n, 6 for the tape's length, block by block 7, 8, 5 and 9, and 10 for the output.
+// stay; or the refusal of its inputs' verdict, or 10 for the output.
 pub fn read(n: u64, tape: &[u8], output: &mut [u8]) -> Filled
     ensures answer { λ r. ⌜ told r ≡ readAnswer n (now (tape .entry)) (now (output .entry)) ⌝ }
     ensures buffer { λ _. ⌜ now (output .exit) ≡ readOutput n (now (tape .entry)) (now (output .entry)) ⌝ }
 {
-    if !Ring::fits(n) {
-        return Filled::Refused(Refusal::Size);
-    }
-    let counted = Counted::of(tape, n as usize, Event::CODES);
-    let Counted::Done(events) = counted else {
-        let Counted::Refused(refusal) = counted else {
-            return Filled::Done(0);
-        };
-        return Filled::Refused(refusal);
+    let verdict = read_verdict(n, tape);
+    let Verdict::Fine = verdict else {
+        return Filled::Refused(refusal_of(verdict));
     };
-    let list_length = 8 * events;
+    let list_length = 8 * event_count(tape);
     if output.len() < list_length {
         return Filled::Refused(Refusal::Output);
     }

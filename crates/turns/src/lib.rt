@@ -77,7 +77,7 @@ pub fn turns(
     let mut k = first;
     let mut at = start;
     while k < end {
-        let event = Event::read(bytes, at);
+        let event = Event::parse(bytes, at);
         let done = perform(image, event);
         last = done.outcome;
         let number = outcome_number(last);

@@ -1,10 +1,10 @@
 -- What is or-ed covers each event passed, and where it is small at the end all of them fit. Assumes nothing.
-use Prim.Native.Nat.{ℕ, _+_, _-_, _*_, _%_, _≤_, _<_}
+use Prim.Native.Nat.{ℕ, _+_, _-_, _*_, _≤_, _<_}
 use mathlib.Core.Path.{_≡_}
 use mathlib.Core.Logic.{⊎-elim}
 use native.Mathlib.Omega.{arith}
 use Rattle.machine.specs.Bytes.{Bytes}
-use Rattle.blocks.proofs.Together.{product-small, Covers, covers-on, small-fits}
+use Rattle.blocks.proofs.Together.{Covers, covers-on, small-fits}
 use Rattle.blocks.proofs.fitting.Statement.{statement}
 use Rattle.blocks.proofs.fitting.Tie as tie
 
@@ -26,27 +26,28 @@ far c = ⊎-elim (λ w. omega arith) (λ w. omega arith) (c .if1 .came)
 loop-holds : tie.Need-loop-holds Inv-loop μ-loop
 loop-holds c = (omega arith, λ i h. absurd (omega arith))
 
-add-any : tie.Need-add-any Inv-loop μ-loop
-add-any c = omega (arith, gap-small (c .before .before .before .before .before))
+cast-gap : tie.Need-cast-gap Inv-loop μ-loop
+cast-gap c = omega (arith, gap-small (c .before))
 
-mul-mixed : tie.Need-mul-mixed Inv-loop μ-loop
-mul-mixed c =
-    let front = c .before .before .number-at .result in
-    let p = product-small (front - front % 256) (c .before .number-at2 .result) (omega arith) (omega arith) in
-    omega arith
+add-any : tie.Need-add-any Inv-loop μ-loop
+add-any c = omega (arith, gap-small (c .before .before .before .before .before .before))
 
 loop-again : tie.Need-loop-again Inv-loop μ-loop
 loop-again c =
-    let l = c .before .before .before .before .loop in
-    let j = c .before .before .before .before .before in
+    let l = c .before .before .before .before .before .loop in
+    let j = c .before .before .before .before .before .before .before in
     let a = j .before .before .before .args in
-    let one = c .before .before .number-at .ensures in
-    let two = c .before .number-at2 .ensures in
-    (omega arith, covers-on (j .if1 .gap) (l .any) (l .mixed) (a .bytes .now) (a .at) (l .k) one two (l .inv .1))
+    let one = c .before .before .before .number-at .ensures in
+    let two = c .before .before .number-at2 .ensures in
+    let t = c .before .if2 in (
+      omega arith,
+      covers-on (j .if1 .gap) (l .any) (l .mixed) (a .bytes .now) (a .at) (l .k) one two (t .beside)
+          (λ some. ⊎-elim (λ w. absurd (some (omega arith))) (λ w. omega arith) (t .came)) (l .inv .1),
+    )
 
 returns : tie.Need-returns Inv-loop μ-loop
 returns c =
-    let j = c .before .before .before in
+    let j = c .before .before .before .before in
     let d = j .before .before in
     let a = d .before .args in
     let l = c .before .before .loop in
@@ -54,7 +55,7 @@ returns c =
     let bytes : Bytes (a .bytes .now) = λ k. omega (arith, d .shared-slice-known .given k) in
     let each =
     small-fits (a .n) (a .codes) (j .if1 .gap) (l .any) (l .mixed) (a .bytes .now) bytes (omega arith) limit (far j)
-    (c .if2 .taken) in
+    (c .if3 .taken) in
     (omega arith, λ k h. each (a .at + 8 * k) (l .inv .1 k (omega arith)))
 
 returns-2 : tie.Need-returns-2 Inv-loop μ-loop
@@ -63,7 +64,7 @@ returns-2 c = (omega arith, λ k h. absurd (omega arith))
 pub fitting-spec : {M : Type 1} → statement M
 fitting-spec =
     tie.close
-    (tie.spec Inv-loop μ-loop (λ c κs. tt) (λ c. omega arith) (λ c. omega arith) loop-holds (λ c. omega arith)
+    (tie.spec Inv-loop μ-loop (λ c κs. tt) (λ c. omega arith) (λ c. omega arith) cast-gap loop-holds (λ c. omega arith)
     (λ c. omega arith) (λ c κs. omega arith) (λ c. omega arith) (λ c. omega arith) (λ c. omega arith)
-    (λ c. omega arith) (λ c κs. omega arith) (λ c. omega arith) (λ c. omega arith) add-any mul-mixed
-    (λ c. omega arith) (λ c. omega arith) loop-again returns returns-2)
+    (λ c κs. omega arith) (λ c. omega arith) add-any (λ c. omega arith) (λ c. omega arith) loop-again (λ c. omega arith)
+    returns returns-2)

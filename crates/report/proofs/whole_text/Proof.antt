@@ -1,6 +1,5 @@
 -- Each refusal is the rule's first; past them the run's text is the whole one. Assumes nothing.
 use Prim.Native.Nat.{ℕ}
-use mathlib.Core.Path.{_∙_}
 use mathlib.Core.List.{List}
 use native.Mathlib.Omega.{arith}
 use lib.ListN.{replicate}
@@ -14,25 +13,26 @@ use Rattle.report.proofs.whole_text.Tie as tie
 abbrev blank : List ℕ
 blank = replicate 528 0
 
-returns-2 : tie.Need-returns-2
-returns-2 c =
-    let g = c .before .before .before .before .before .before .before .before .before .before .before in
+returns : tie.Need-returns
+returns c =
+    let g = c .before .before .before .before .before .before .before .before in
     let input = g .before .before .before .before .before .before .args .input .now in
     let n = g .before .before .before .given .ensures .0 in
     let home = g .before .before .given2 .ensures .0 in
-    let refused = c .before .before .before .before .before .before .before .before .fresh2 .given .1 ∙ c .before .before .before .before .before .fresh3 .given .1 in
-    piece-is (fresh-refused input blank (zeros-room 528) n home _ (g .fresh .ensures .0) refused)
-    (c .before .before .put-refusal2 .ensures)
+    piece-is
+    (fresh-refused input blank (zeros-room 528) n home _ (g .fresh .ensures .0)
+    (c .before .before .before .before .before .enum-told2 .given .1) (c .before .before .before .refusal .ensures))
+    (c .before .before .put-refusal .ensures)
 
-returns-3 : tie.Need-returns-3
-returns-3 c =
+returns-2 : tie.Need-returns-2
+returns-2 c =
     let g = c .before .before .before .before .before .before .before .before in
     let input = g .before .before .before .before .before .before .args .input .now in
     let n = g .before .before .before .given .ensures .0 in
     let home = g .before .before .given2 .ensures .0 in
     let done = c .before .before .before .before .before .enum-told .given .1 in
     piece-is (length-refused input blank (zeros-room 528) n home _ (g .fresh .ensures .0) done (omega arith))
-    (c .before .before .put-refusal3 .ensures)
+    (c .before .before .put-refusal2 .ensures)
 
 run-text-requires : tie.Need-run-text-requires
 run-text-requires c κs =
@@ -46,8 +46,8 @@ run-text-requires c κs =
       omega arith,
     )
 
-returns-4 : tie.Need-returns-4
-returns-4 c =
+returns-3 : tie.Need-returns-3
+returns-3 c =
     let g = c .before .before .before .before .before .before .before .before .before .before .before .before in
     let input = g .before .before .before .before .before .before .args .input .now in
     let n = g .before .before .before .given .ensures .0 in
@@ -62,7 +62,6 @@ pub whole-text-spec : {M : Type 1} → statement M
 whole-text-spec =
     tie.close
     (tie.spec (λ c κs. tt) (λ c κs. tt) (λ c. omega arith) (λ c κs. tt) (λ c. omega arith) (λ c. omega arith)
-    (λ c. omega arith) (λ c. omega arith) (λ c κs. omega arith) (λ c. omega arith) (λ c. absurd (omega arith))
-    (λ c κs. omega arith) (λ c. omega arith) returns-2 (λ c κs. omega arith) (λ c. omega arith) returns-3 (λ c κs. tt)
-    (λ c. omega arith) (λ c. omega arith) (λ c. omega arith) (λ c. omega arith) run-text-requires (λ c. omega arith)
-    returns-4)
+    (λ c κs. tt) (λ c κs. omega arith) (λ c. omega arith) returns (λ c κs. omega arith) (λ c. omega arith) returns-2
+    (λ c κs. tt) (λ c. omega arith) (λ c. omega arith) (λ c. omega arith) (λ c. omega arith) run-text-requires
+    (λ c. omega arith) returns-3)

@@ -1,63 +1,60 @@
--- Each refusal is the rule's first; past them the unpacked events are the tape's list. Assumes nothing.
-use mathlib.Core.Path.{_∙_}
+-- Refused as what it is given is, or by the room; else the unpacked events are the tape's list.
+use mathlib.Core.Path.{_≡_, sym, _∙_}
 use native.Mathlib.Omega.{arith}
-use borrow.Author.Tests.{not-true, not-false}
-use Rattle.tape.proofs.Reader.{read-size, read-tape, read-blocks, read-short, read-done}
+use Rattle.machine.specs.declared.Verdict.the-variants.{Fine}
+use Rattle.machine.specs.Refusals.{orElse, codes, sizeVerdict, tapeVerdict}
+use Rattle.refusal.proofs.Verdicts.{handed-on}
+use Rattle.tape.proofs.Reader.{read-refused, read-accepted, read-blocks, read-short, read-done}
 use Rattle.tape.proofs.read.Statement.{statement}
 use Rattle.tape.proofs.read.Tie as tie
 
+fine : (c : tie.After-enum-told)
+    → let a = c .before .before .before .before .before .args in
+    orElse (sizeVerdict (a .n)) (tapeVerdict codes (a .n) (a .tape .now)) ≡ Fine
+fine c = sym (c .before .before .read-verdict .ensures) ∙ c .enum-told .given .1
+
 returns : tie.Need-returns
 returns c =
-    let a = c .before .before .before .before .args in
-    read-size (a .n) (a .tape .now) (a .output .now) (c .before .fits2 .ensures) (not-true _ (c .if1 .taken))
+    let a = c .before .before .before .before .before .before .args in
+    read-refused (a .n) (a .tape .now) (a .output .now)
+    (handed-on (c .before .before .before .read-verdict .ensures) (c .before .enum-told2 .given .1)
+    (c .refusal-of .ensures))
 
-returns-3 : tie.Need-returns-3
-returns-3 c =
-    let t = c .before .before .before .before .before .before in
-    let a = t .before .before .before .before .before .args in
-    read-tape (a .n) (a .tape .now) (a .output .now) (t .before .before .fits2 .ensures)
-    (not-false _ (t .before .if1 .left)) (t .of .ensures)
-    (c .before .before .before .before .counted2 .given .1 ∙ c .before .counted3 .given .1)
+event-count-requires : tie.Need-event-count-requires
+event-count-requires c κs =
+    let a = c .before .before .before .before .before .args in
+    read-accepted (a .n) (a .tape .now) (a .output .now) (fine c)
 
 mul-list-length : tie.Need-mul-list-length
 mul-list-length c =
-    let t = c .before .before .before in
-    let a = t .before .before .before .before .before .args in
-    let facts =
-    read-blocks (a .n) (a .tape .now) (a .output .now) (t .before .before .fits2 .ensures)
-    (not-false _ (t .before .if1 .left)) (t .of .ensures) (c .before .counted .given .1) in
-    omega arith
+    let f = c .before in
+    let a = f .before .before .before .before .before .args in
+    omega (arith, read-blocks (a .n) (a .tape .now) (a .output .now) (fine f) (c .event-count .ensures) .0)
 
-returns-4 : tie.Need-returns-4
-returns-4 c =
-    let t = c .before .before .before .before in
-    let a = t .before .before .before .before .before .args in
-    read-short (a .n) (a .tape .now) (a .output .now) (t .before .before .fits2 .ensures)
-    (not-false _ (t .before .if1 .left)) (t .of .ensures) (c .before .before .counted .given .1)
-    (c .if2 .taken)
+returns-2 : tie.Need-returns-2
+returns-2 c =
+    let f = c .before .before in
+    let a = f .before .before .before .before .before .args in
+    read-short (a .n) (a .tape .now) (a .output .now) (fine f) (c .before .event-count .ensures) (c .if1 .taken)
 
 unpack-requires : tie.Need-unpack-requires
 unpack-requires c κs =
-    let t = c .before .before .before .before .before in
-    let a = t .before .before .before .before .before .args in
+    let f = c .before .before .before in
+    let a = f .before .before .before .before .before .args in
     let facts =
-    read-blocks (a .n) (a .tape .now) (a .output .now) (t .before .before .fits2 .ensures)
-    (not-false _ (t .before .if1 .left)) (t .of .ensures) (c .before .before .before .counted .given .1) in
+    read-blocks (a .n) (a .tape .now) (a .output .now) (fine f) (c .before .before .event-count .ensures) in
     omega arith
 
-returns-5 : tie.Need-returns-5
-returns-5 c =
+returns-3 : tie.Need-returns-3
+returns-3 c =
     let room = c .before .before .before .before in
-    let fine = room .before .before in
-    let t = fine .before .before in
-    let a = t .before .before .before .before .before .args in
-    read-done (a .n) (a .tape .now) (a .output .now) (t .before .before .fits2 .ensures)
-    (not-false _ (t .before .if1 .left)) (t .of .ensures) (fine .counted .given .1) (room .if2 .left)
+    let f = room .before .before in
+    let a = f .before .before .before .before .before .args in
+    read-done (a .n) (a .tape .now) (a .output .now) (fine f) (room .before .event-count .ensures) (room .if1 .left)
     (c .before .before .unpack .ensures)
 
 pub read-spec : {M : Type 1} → statement M
 read-spec =
     tie.close
-    (tie.spec (λ c κs. omega arith) returns (λ c κs. omega arith) (λ c. omega arith) (λ c. omega arith)
-    (λ c. omega arith) (λ c. omega arith) (λ c. absurd (omega arith)) returns-3 mul-list-length returns-4
-    unpack-requires (λ c. omega arith) returns-5)
+    (tie.spec (λ c κs. tt) (λ c. omega arith) (λ c. omega arith) (λ c κs. tt) returns event-count-requires
+    mul-list-length returns-2 unpack-requires (λ c. omega arith) returns-3)

@@ -1,52 +1,46 @@
--- Each refusal is the rule's first; past them the packed blocks are the list's tape. Assumes nothing.
-use mathlib.Core.Path.{_∙_}
+-- Refused as what it is given is, or by the room; else the packed blocks are the list's tape.
+use mathlib.Core.Path.{_≡_, sym, _∙_}
 use native.Mathlib.Omega.{arith}
-use borrow.Author.Tests.{not-true, not-false}
-use Rattle.tape.proofs.Writer.{write-size, write-list, write-events, write-short, write-done}
+use Rattle.machine.specs.declared.Verdict.the-variants.{Fine}
+use Rattle.machine.specs.Refusals.{orElse, codes, sizeVerdict, listVerdict}
+use Rattle.refusal.proofs.Verdicts.{handed-on}
+use Rattle.tape.proofs.Writer.{write-refused, write-events, write-short, write-done}
 use Rattle.tape.proofs.write.Statement.{statement}
 use Rattle.tape.proofs.write.Tie as tie
 
+fine : (c : tie.After-enum-told)
+    → let a = c .before .before .before .before .before .args in
+    orElse (sizeVerdict (a .n)) (listVerdict codes (a .n) (a .list .now)) ≡ Fine
+fine c = sym (c .before .before .write-verdict .ensures) ∙ c .enum-told .given .1
+
 returns : tie.Need-returns
 returns c =
-    let a = c .before .before .before .before .args in
-    write-size (a .n) (a .list .now) (a .output .now) (c .before .fits2 .ensures) (not-true _ (c .if1 .taken))
-
-returns-3 : tie.Need-returns-3
-returns-3 c =
-    let t = c .before .before .before .before .before .before in
-    let a = t .before .before .before .before .before .args in
-    write-list (a .n) (a .list .now) (a .output .now) (t .before .before .fits2 .ensures)
-    (not-false _ (t .before .if1 .left)) (t .list-verdict .ensures)
-    (c .before .before .before .before .verdict .given .1 ∙ c .before .verdict2 .given .1)
+    let a = c .before .before .before .before .before .before .args in
+    write-refused (a .n) (a .list .now) (a .output .now)
+    (handed-on (c .before .before .before .write-verdict .ensures) (c .before .enum-told2 .given .1)
+    (c .refusal-of .ensures))
 
 blocks-for-requires : tie.Need-blocks-for-requires
 blocks-for-requires c κs =
-    let t = c .before .before in
-    let a = t .before .before .before .before .before .args in
-    write-events (a .n) (a .list .now) (a .output .now) (t .before .before .fits2 .ensures)
-    (not-false _ (t .before .if1 .left)) (t .list-verdict .ensures) (c .enum-told .given .1)
+    let a = c .before .before .before .before .before .args in
+    write-events (a .n) (a .list .now) (a .output .now) (fine c)
 
-returns-4 : tie.Need-returns-4
-returns-4 c =
-    let t = c .before .before .before .before in
-    let a = t .before .before .before .before .before .args in
-    write-short (a .n) (a .list .now) (a .output .now) (t .before .before .fits2 .ensures)
-    (not-false _ (t .before .if1 .left)) (t .list-verdict .ensures) (c .before .before .enum-told .given .1)
-    (c .before .blocks-for .ensures .0) (c .if2 .taken)
+returns-2 : tie.Need-returns-2
+returns-2 c =
+    let f = c .before .before in
+    let a = f .before .before .before .before .before .args in
+    write-short (a .n) (a .list .now) (a .output .now) (fine f) (c .before .blocks-for .ensures .0) (c .if1 .taken)
 
-returns-5 : tie.Need-returns-5
-returns-5 c =
+returns-3 : tie.Need-returns-3
+returns-3 c =
     let room = c .before .before .before .before in
-    let fine = room .before .before in
-    let t = fine .before .before in
-    let a = t .before .before .before .before .before .args in
-    write-done (a .n) (a .list .now) (a .output .now) (t .before .before .fits2 .ensures)
-    (not-false _ (t .before .if1 .left)) (t .list-verdict .ensures) (fine .enum-told .given .1)
-    (room .before .blocks-for .ensures .0) (room .if2 .left) (c .before .before .pack .ensures)
+    let f = room .before .before in
+    let a = f .before .before .before .before .before .args in
+    write-done (a .n) (a .list .now) (a .output .now) (fine f) (room .before .blocks-for .ensures .0) (room .if1 .left)
+    (c .before .before .pack .ensures)
 
 pub write-spec : {M : Type 1} → statement M
 write-spec =
     tie.close
-    (tie.spec (λ c κs. omega arith) returns (λ c κs. omega arith) (λ c. omega arith) (λ c. omega arith)
-    (λ c. omega arith) (λ c. omega arith) (λ c. absurd (omega arith)) returns-3 blocks-for-requires (λ c. omega arith)
-    returns-4 (λ c κs. omega arith) (λ c. omega arith) returns-5)
+    (tie.spec (λ c κs. tt) (λ c. omega arith) (λ c. omega arith) (λ c κs. tt) returns blocks-for-requires
+    (λ c. omega arith) returns-2 (λ c κs. omega arith) (λ c. omega arith) returns-3)

@@ -27,7 +27,7 @@ loop-holds c =
 
 perform-requires : tie.Need-perform-requires Inv-loop μ-loop
 perform-requires c κs =
-    may-perform (c .before .before .before .loop .inv) (c .before .before .loop-test .taken) (c .before .read .ensures)
+    may-perform (c .before .before .before .loop .inv) (c .before .before .loop-test .taken) (c .before .parse .ensures)
 
 add-counts : tie.Need-add-counts Inv-loop μ-loop
 unfolding littleEndian
@@ -43,7 +43,7 @@ shl-counts c = let number = numbered (c .before .before .before .before .perform
 add-counts-3 : tie.Need-add-counts-3 Inv-loop μ-loop
 add-counts-3 c =
     let here = c .before .before .before .before .before .before .before .before .before .loop in
-    let code = c .before .before .before .before .before .before .before .read .result .code in
+    let code = c .before .before .before .before .before .before .before .parse .result .code in
     let did = c .before .before .before .before .before .perform in
     let o = did .result .outcome in
     let fits = packed-fits (packed-more code o (here .inv .packed)) (omega arith) in
@@ -56,7 +56,7 @@ add-counts-2 c = omega (arith, add-counts-3 c)
 enter-requires : tie.Need-enter-requires Inv-loop μ-loop
 enter-requires c κs =
     let turn = c .before .before .before .before .before .before .before .before .before .before in
-    let event = c .before .before .before .before .before .before .before .before .before .read in
+    let event = c .before .before .before .before .before .before .before .before .before .parse in
     let may = may-perform (turn .before .loop .inv) (turn .loop-test .taken) (event .ensures) in
     let image = image-fine _ (may .fine) in
     search needs
@@ -65,7 +65,7 @@ loop-again : tie.Need-loop-again Inv-loop μ-loop
 loop-again c =
     let turn = c .before .before .before .before .before .before .before in
     let here = turn .before .loop in
-    let event = c .before .before .before .before .before .before .read in
+    let event = c .before .before .before .before .before .before .parse in
     let did = c .before .before .before .before .perform in
     let v = event .result in
     let o = did .result .outcome in

@@ -1,75 +1,73 @@
--- Each test that refuses is the table's row, with the buffer as it was; past them zeros, N and have at home are the
--- fresh state's image. Assumes nothing.
+-- A verdict that refuses is handed on, with the buffer as it was; else zeros, N and have at home are the fresh state's
+-- image.
 use Prim.Native.Nat.{_+_, _*_}
 use mathlib.Core.Path.{sym, ap, _∙_}
 use native.Mathlib.Omega.{arith}
 use lib.ListN.{set, length-set}
-use borrow.Author.Tests.{not-true, not-false}
 use Rattle.machine.proofs.Fresh.{fresh-stores}
-use Rattle.machine.proofs.Refusals.{SizeFits, size-fits, fresh-no-size, fresh-no-home, fresh-short, fresh-whole}
-use Rattle.machine.specs.declared.Refusal.the-variants as refusal
+use Rattle.machine.proofs.Refusals.{FreshFine, fresh-fine}
+use Rattle.refusal.proofs.Verdicts.{handed-on}
 use Rattle.image.proofs.Laws.{fresh-refused, fresh-done}
 use Rattle.image.proofs.Ring.fresh.Statement.{statement}
 use Rattle.image.proofs.Ring.fresh.Tie as tie
 
--- past the first test
-size : (c : tie.Else1) → SizeFits (c .before .before .before .args .n)
-size c = size-fits (c .before .before .before .args .n) (sym (c .before .fits2 .ensures) ∙ not-false _ (c .if1 .left))
+-- past the verdict
+fine : (c : tie.After-enum-told)
+    → let a = c .before .before .before .before .before .args in
+    FreshFine (a .n) (a .home) (a .image .now)
+fine c =
+    let a = c .before .before .before .before .before .args in
+    fresh-fine (a .n) (a .home) (a .image .now) (sym (c .before .before .fresh-verdict .ensures) ∙ c .enum-told .given .1)
 
 returns : tie.Need-returns
 returns c =
-    let a = c .before .before .before .args in
-    fresh-refused (a .n) (a .home) (a .image .now) refusal.Size
-    (fresh-no-size (a .n) (a .home) (a .image .now) (sym (c .before .fits2 .ensures) ∙ not-true _ (c .if1 .taken)))
+    let a = c .before .before .before .before .before .before .args in
+    fresh-refused (a .n) (a .home) (a .image .now) _
+    (handed-on (c .before .before .before .fresh-verdict .ensures) (c .before .enum-told2 .given .1)
+    (c .refusal-of .ensures))
+
+mul-count : tie.Need-mul-count
+mul-count c = omega (arith, fine c .size .most)
+
+add-count : tie.Need-add-count
+add-count c = omega (arith, fine c .size .most)
+
+mul-at : tie.Need-mul-at
+mul-at c = omega (arith, fine c .below, fine c .size .most)
+
+add-at : tie.Need-add-at
+add-at c = omega (arith, fine c .below, fine c .size .most)
+
+clear-requires : tie.Need-clear-requires
+clear-requires c κs = omega (arith, fine (c .before) .room)
+
+cast-image : tie.Need-cast-image
+cast-image c = omega (arith, fine (c .before .before .before .before) .size .most)
+
+slice-write-image : tie.Need-slice-write-image
+slice-write-image c = omega (arith, fine (c .before .before .before .before) .room)
+
+add-image : tie.Need-add-image
+add-image c =
+    let f = fine (c .before .before .before .before) in
+    omega (arith, f .below, f .size .most)
+
+slice-write-image-2 : tie.Need-slice-write-image-2
+slice-write-image-2 c =
+    let f = fine (c .before .before .before .before) in
+    simp length-set (omega (arith, f .below, f .room))
 
 returns-2 : tie.Need-returns-2
 returns-2 c =
-    let a = c .before .before .before .before .args in
-    fresh-refused (a .n) (a .home) (a .image .now) refusal.Home
-    (fresh-no-home (a .n) (a .home) (a .image .now) (size (c .before)) (omega (arith, c .if2 .taken)))
-
-mul-count : tie.Need-mul-count
-mul-count c = omega (arith, size (c .before) .most)
-
-add-count : tie.Need-add-count
-add-count c = omega (arith, size (c .before) .most)
-
-returns-3 : tie.Need-returns-3
-returns-3 c =
-    let a = c .before .before .before .before .before .args in
-    fresh-refused (a .n) (a .home) (a .image .now) refusal.Short
-    (fresh-short (a .n) (a .home) (a .image .now) (size (c .before .before)) (c .before .if2 .left) (c .if3 .taken))
-
-mul-at : tie.Need-mul-at
-mul-at c = omega (arith, size (c .before .before) .most)
-
-add-at : tie.Need-add-at
-add-at c = omega (arith, size (c .before .before) .most)
-
-cast-image : tie.Need-cast-image
-cast-image c = omega (arith, size (c .before .before .before .before .before .before) .most)
-
-add-image : tie.Need-add-image
-add-image c = omega (arith, size (c .before .before .before .before .before .before) .most)
-
-slice-write-image-2 : tie.Need-slice-write-image-2
-slice-write-image-2 c = simp length-set (omega arith)
-
-same-length : tie.Need-same-length
-same-length c = simp length-set (omega arith)
-
-returns-4 : tie.Need-returns-4
-returns-4 c =
-    let room = c .before .before .before .before in
-    let home = room .before in
-    let a = home .before .before .before .before .args in
-    fresh-done (a .n) (a .home) (a .image .now) _
-    (fresh-whole (a .n) (a .home) (a .image .now) (size (home .before)) (home .if2 .left) (room .if3 .left))
+    let v = c .before .before .before .before in
+    let a = v .before .before .before .before .before .args in
+    fresh-done (a .n) (a .home) (a .image .now) _ (sym (v .before .before .fresh-verdict .ensures) ∙ v .enum-told .given .1)
     (ap (λ l. set (set l 0 (a .n)) (16 + 8 * a .home + 1) 1) (c .before .before .clear .ensures)
-    ∙ fresh-stores (a .image .now) (a .n) (a .home) (home .if2 .left))
+    ∙ fresh-stores (a .image .now) (a .n) (a .home) (fine v .below))
 
 pub fresh-spec : {M : Type 1} → statement M
 fresh-spec =
     tie.close
-    (tie.spec (λ c κs. tt) returns returns-2 mul-count add-count returns-3 mul-at add-at (λ c κs. omega arith)
-    cast-image (λ c. omega arith) add-image slice-write-image-2 same-length returns-4)
+    (tie.spec (λ c κs. tt) (λ c. omega arith) (λ c. omega arith) (λ c κs. tt) (λ c. omega arith) returns
+    mul-count add-count mul-at add-at clear-requires cast-image slice-write-image add-image slice-write-image-2
+    (λ c. simp length-set (omega arith)) returns-2)

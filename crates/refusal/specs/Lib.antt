@@ -1,0 +1,2 @@
+-- What contracts over this crate cite beside the rules.
+pub mod Verdicts

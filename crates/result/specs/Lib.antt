@@ -1,2 +1,0 @@
--- What contracts over this crate cite beside the rules.
-pub mod Short
