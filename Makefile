@@ -3,28 +3,37 @@
 # lints, where cargo has fmt and clippy, and their tests; then every sample through ringrun, then rt ci's own closing
 # line as the very last line, which is printed only if all of that passed.
 #
+# make check: the loop while editing. The layout, and what has changed since it was last proved; no edits and no Rust.
+# CRATES names crates, and what they lean on is proved with them.
+#
 # make run: builds ringrun, proved, and runs it on a sample, or on the file that IN names.
 #
 # make bench: the proved library and plain Rust, timed side by side on this machine (docs/PERFORMANCE.md).
 #
 # make count: the instructions of an event and of a call on either side, by callgrind; it needs valgrind.
 #
-# rt ci's output is kept in a file outside target/, which rt ci removes, so that its exit status is not lost in a pipe.
+# rt ci's lines are shown as they come, each once the next one is there, so that the closing line can wait until the end.
+# They and rt ci's exit status, which a pipe would lose, are kept outside target/, which rt ci removes.
 # RING_HOST_DIR would have the packages link archives from elsewhere, so it is unset. Ignored tests are run too.
 
 SHELL := /bin/sh
 IN = samples/entry-01.in
-.PHONY: test run bench count
+CRATES =
+.PHONY: test check run bench count
 
 test:
 	@set -eu; \
 	unset RING_HOST_DIR; \
-	log=$$(mktemp); \
-	trap 'rm -f "$$log"' EXIT; \
+	kept=$$(mktemp -d); \
+	trap 'rm -rf "$$kept"' EXIT; \
 	rt fmt --check; \
-	rt ci >"$$log" 2>&1 || { status=$$?; cat "$$log"; echo "rt ci: exit status $$status"; exit "$$status"; }; \
-	sed '$$d' "$$log"; \
-	closing=$$(tail -n 1 "$$log"); \
+	{ rt ci 2>&1 || echo $$? >"$$kept/failed"; } | tee "$$kept/log" | sed -u '$$d'; \
+	closing=$$(tail -n 1 "$$kept/log"); \
+	if [ -e "$$kept/failed" ]; then \
+		echo "$$closing"; \
+		echo "rt ci: exit status $$(cat "$$kept/failed")"; \
+		exit 1; \
+	fi; \
 	echo "$$closing" | grep -Eq '^[1-9][0-9]* passed, 0 failed$$' || { echo "$$closing"; exit 1; }; \
 	rt staticlib ring_host; \
 	rt staticlib ring_tools; \
@@ -36,6 +45,10 @@ test:
 	cargo test --release --offline --quiet --workspace -- --include-ignored); \
 	samples/check target/bin/ringrun; \
 	echo "$$closing"
+
+check:
+	@rt fmt --check
+	@rt check $(CRATES)
 
 run:
 	@test -r '$(IN)' || { echo 'make run: cannot read $(IN)' >&2; exit 2; }

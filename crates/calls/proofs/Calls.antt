@@ -1,6 +1,6 @@
 -- What every call keeps, refused or not: the image is accepted, of the same size, and the invariant of its state holds
 -- with what the calls have shown so far. A refused call changes and shows nothing; a step does what one event does, and
--- a run what its list of events does. Assumes nothing.
+-- a run what its list of events does.
 use Prim.Native.Nat.{ℕ, _^_}
 use mathlib.Core.Path.{_≡_, refl, sym, subst, _∙_}
 use mathlib.Core.Bool.{true}
@@ -22,11 +22,11 @@ use Rattle.machine.specs.Tape.{eventIn}
 use Rattle.machine.specs.Refusals.{orElse, codes, imageVerdict, eventVerdict, tapeVerdict, outputVerdict}
 use Rattle.machine.specs.Answers.{answer, lent, outcomeValues, stepVerdict, stepAnswer, stepImage}
 use Rattle.machine.specs.Answers.{runEvents, runRecords, runVerdict, runAnswer, runImage, runLedger}
-use Rattle.machine.proofs.Bytes.{number-lt}
-use Rattle.machine.proofs.Lists.{and-first, and-second}
-use Rattle.machine.proofs.Stored.{length-state}
-use Rattle.machine.proofs.Rewrite.{read-in-range}
-use Rattle.machine.proofs.Refusals.{number-range, event-below, first-fine}
+use Rattle.machine.proofs.Laws.Bytes.{number-lt}
+use Rattle.machine.proofs.Laws.Lists.{and-first, and-second}
+use Rattle.machine.proofs.Image.Stored.{length-state}
+use Rattle.machine.proofs.Image.Rewrite.{read-in-range}
+use Rattle.machine.proofs.Laws.Refusals.{number-range, event-below, first-fine}
 use Rattle.machine.proofs.Runs.{fitting, Continues, event-continues, events-continue}
 use Rattle.machine.proofs.Balance.Clauses.{Invariant}
 use Rattle.machine.proofs.Balance.Kept.{countsOf, event-kept, events-kept}

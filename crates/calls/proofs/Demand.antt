@@ -1,5 +1,5 @@
 -- The third demand over lists of calls: the fresh ring has the invariant with nothing shown, every call keeps it with
--- what it shows besides, and what is promised is read off it and off the image's bytes. Assumes nothing.
+-- what it shows besides, and what is promised is read off it and off the image's bytes.
 use Prim.Native.Nat.{ℕ, suc, _≤_, _<_}
 use mathlib.Core.Path.{_≡_, sym, ap, subst, _∙_}
 use mathlib.Core.Bool.{true, false}
@@ -17,11 +17,11 @@ use Rattle.machine.specs.Stopped.{stopped}
 use Rattle.machine.specs.Balance.{Totals}
 use Rattle.machine.specs.Refusals.{imageVerdict}
 use Rattle.machine.specs.Answers.{Answer, freshVerdict, freshImage, stoppedAnswer}
-use Rattle.machine.proofs.Bits.{bit-on}
-use Rattle.machine.proofs.Octets.{written-bytes}
-use Rattle.machine.proofs.Refusals.{fresh-whole}
-use Rattle.machine.proofs.Fresh.{fresh-fits, length-fresh, fresh-accepted, fresh-written, fresh-size, fresh-state}
-use Rattle.machine.proofs.Facts.{state-facts}
+use Rattle.machine.proofs.Laws.Bits.{bit-on}
+use Rattle.machine.proofs.Soundness.Octets.{written-bytes}
+use Rattle.machine.proofs.Laws.Refusals.{fresh-whole}
+use Rattle.machine.proofs.Image.Fresh.{fresh-fits, length-fresh, fresh-accepted, fresh-written, fresh-size, fresh-state}
+use Rattle.machine.proofs.Soundness.Facts.{state-facts}
 use Rattle.machine.proofs.Stopped.{stopped-means}
 use Rattle.machine.proofs.Balance.Start.{fresh-invariant}
 use Rattle.machine.proofs.Balance.Theorem.{balanced}

@@ -1,5 +1,5 @@
 -- What the demand reads off an image's bytes is what the rules say of its state: flag by flag, since the records are
--- read one by one, and the envelope's own message, since both read the same bytes. Assumes nothing.
+-- read one by one, and the envelope's own message, since both read the same bytes.
 use Prim.Native.Nat.{ℕ, zero, suc, _+_}
 use mathlib.Core.Path.{_≡_, refl, sym, ap, _∙_}
 use mathlib.Core.List.{List}
@@ -9,8 +9,8 @@ use Rattle.machine.specs.Lists.{tabulate, sum}
 use Rattle.machine.specs.Image.{processIn, processesIn, sizeIn, envelopeIn, stateIn}
 use Rattle.machine.specs.Sound.{places}
 use Rattle.machine.specs.Balance.{ownMessage}
-use Rattle.machine.proofs.Lists.{tabulate-more}
-use Rattle.machine.proofs.Walk.{places-more}
+use Rattle.machine.proofs.Laws.Lists.{tabulate-more}
+use Rattle.machine.proofs.Laws.Walk.{places-more}
 use Rattle.calls.specs.Demand.{flagsSet, ownMessageIn}
 
 -- of the first n records

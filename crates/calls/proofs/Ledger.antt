@@ -1,6 +1,6 @@
 -- The messages that are read from a ledger buffer after a run are those of the rules, in order: each record stands 12
 -- bytes after the one before it, byte 5 of it is the outcome's number, and its last four bytes hold the message, which
--- is in range. Assumes nothing.
+-- is in range.
 use Prim.Native.Nat.{ℕ, suc, _+_, _*_, _^_, _≤_, _<_}
 use mathlib.Core.Path.{_≡_, refl, sym, ap, ap₂, _∙_}
 use mathlib.Core.Bool.{Bool, true, false, cond}
@@ -17,9 +17,9 @@ use Rattle.machine.specs.Events.{Event, outcome, apply}
 use Rattle.machine.specs.Run.{outcomeNumber, outcomeMessage, recorded, ledgerRecord, ledgerEntry, ledgerFrom}
 use Rattle.machine.specs.Run.{noCounts, counted, countsFrom}
 use Rattle.machine.specs.Balance.{filledFrom, takenFrom}
-use Rattle.machine.proofs.Lists.{and-first, and-second}
-use Rattle.machine.proofs.Readback.{InRange, byte-here, number-here}
-use Rattle.machine.proofs.Kept.{length-applied, range-kept}
+use Rattle.machine.proofs.Laws.Lists.{and-first, and-second}
+use Rattle.machine.proofs.Image.Readback.{InRange, byte-here, number-here}
+use Rattle.machine.proofs.Soundness.Kept.{length-applied, range-kept}
 use Rattle.machine.proofs.Runs.{fitting, fitting-process, fitting-message}
 use Rattle.machine.proofs.Tallies.{length-entry, records-more}
 use Rattle.calls.specs.Calls.{messageIf, recordMessage, ledgerMessages}

@@ -1,5 +1,5 @@
 -- The message that an event fills or takes is in range, as notes and the envelope's own are: four bytes hold it. Fill
--- and take are told apart by the ledger's codes, 2 and 3, which no unrecorded outcome has. Assumes nothing.
+-- and take are told apart by the ledger's codes, 2 and 3, which no unrecorded outcome has.
 use Prim.Native.Nat.{ℕ, _^_, _≤_, _<_}
 use mathlib.Core.Path.{_≡_, refl, sym, ap₂, _∙_}
 use mathlib.Core.Bool.{false}
@@ -14,8 +14,8 @@ use Rattle.machine.specs.Image.{State}
 use Rattle.machine.specs.Events.{Event, processAt, reaction, outcome, apply}
 use Rattle.machine.specs.Run.{outcomeNumber, outcomeMessage, recorded}
 use Rattle.machine.specs.Balance.{filledBy, takenBy, filledFrom, takenFrom}
-use Rattle.machine.proofs.Ranges.{react-small}
-use Rattle.machine.proofs.Readback.{InRange}
+use Rattle.machine.proofs.Soundness.Ranges.{react-small}
+use Rattle.machine.proofs.Image.Readback.{InRange}
 use Rattle.calls.specs.Calls.{messageIf}
 
 -- ---- in range

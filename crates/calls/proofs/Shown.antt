@@ -1,6 +1,6 @@
 -- What a call shows is what the rules count of its events: field by field, the numbers are the same by definition or
 -- by the laws of a run's counts, and the messages by the ledger's codes. A refused call shows nothing. And what calls
--- show one after the other is added in any grouping. Assumes nothing.
+-- show one after the other is added in any grouping.
 use Prim.Native.Nat.{ℕ, _≤_}
 use mathlib.Core.Path.{_≡_, refl, sym, ap, ap₂}
 use mathlib.Core.Bool.{Bool, true, cond}
@@ -17,7 +17,7 @@ use Rattle.machine.specs.Events.{Event}
 use Rattle.machine.specs.Run.{ledgerFrom, noCounts, counted, countsFrom, countValues}
 use Rattle.machine.specs.Balance.{Totals, totalsOf, filledFrom, takenFrom}
 use Rattle.machine.specs.Answers.{Answer, answer, outcomeValues}
-use Rattle.machine.proofs.Readback.{InRange}
+use Rattle.machine.proofs.Image.Readback.{InRange}
 use Rattle.machine.proofs.Runs.{fitting}
 use Rattle.machine.proofs.Tallies.{puts-add, gets-add, sent-add, got-add}
 use Rattle.machine.proofs.Balance.Kept.{countsOf, added}

@@ -1,7 +1,7 @@
 -- The third demand over the calls of the suite's host. With a result slice of at least 80 bytes a call leaves the
 -- image as the call itself does, and what is read back shows the same: the values fit their words, since messages have
 -- 32 bits and a run has at most 4,128,768 events. With a shorter slice a call leaves the image, and the number that it
--- returns isn't 0, so that it shows nothing. So every call keeps what Calls.Reached says. Assumes nothing.
+-- returns isn't 0, so that it shows nothing. So every call keeps what Calls.Reached says.
 use Prim.Native.Nat.{ℕ, suc, _-_, _^_, _≤_, _<_}
 use mathlib.Core.Path.{_≡_, refl, sym, ap, ap₂, subst, _∙_}
 use mathlib.Core.List.{List, [], _∷_, _++_, map}
@@ -26,18 +26,18 @@ use Rattle.machine.specs.Refusals.{numberOf, codes, imageVerdict, tapeVerdict}
 use Rattle.machine.specs.Answers.{Answer, answer, freshImage, outcomeValues, stepVerdict, stepAnswer, stepImage}
 use Rattle.machine.specs.Answers.{runEvents, runVerdict, runAnswer, runImage, runLedger, stoppedAnswer}
 use Rattle.machine.specs.Host.{lentWith}
-use Rattle.machine.proofs.Bytes.{lt-or-ge, number-lt}
-use Rattle.machine.proofs.Bits.{bit-le}
-use Rattle.machine.proofs.Stored.{length-state}
-use Rattle.machine.proofs.Rewrite.{read-in-range}
-use Rattle.machine.proofs.Refusals.{number-range, event-below, first-fine, second-fine}
+use Rattle.machine.proofs.Laws.Bytes.{lt-or-ge, number-lt}
+use Rattle.machine.proofs.Laws.Bits.{bit-le}
+use Rattle.machine.proofs.Image.Stored.{length-state}
+use Rattle.machine.proofs.Image.Rewrite.{read-in-range}
+use Rattle.machine.proofs.Laws.Refusals.{number-range, event-below, first-fine, second-fine}
 use Rattle.ledger.specs.Bounds.{NoneAbove}
 use Rattle.ledger.proofs.Bounds.{none-above-le, none-above-start, counts-few}
 use Rattle.tape.proofs.Events.{length-events, events-few}
-use Rattle.refusal.specs.Verdicts.{refusalOf}
-use Rattle.result.proofs.Read.{FitWords, values-read}
-use Rattle.result.proofs.Read.FitWords.{none, one}
-use Rattle.result.proofs.Told.{lent-as-left, done-told, refused-told, lent-untouched, short-told}
+use Rattle.numbers.specs.Verdicts.{refusalOf}
+use Rattle.result_slice.proofs.Read.{FitWords, values-read}
+use Rattle.result_slice.proofs.Read.FitWords.{none, one}
+use Rattle.result_slice.proofs.Told.{lent-as-left, done-told, refused-told, lent-untouched, short-told}
 use Rattle.calls.specs.Calls.{Call, nothing, value, stepShows, runShows, plus}
 use Rattle.calls.specs.Calls.Call.{Step, Run, Stopped}
 use Rattle.calls.specs.Demand.{SaysStopped, given, GivenBytes}

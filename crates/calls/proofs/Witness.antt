@@ -1,6 +1,6 @@
 -- The demand is not empty: entry 1's events by a run, a step and another run, with refused and stopped calls in
 -- between, make a list that ends stopped, with all that can happen in it; and the same list by the suite's host shows
--- the same to it. The checker computes both. Assumes nothing.
+-- the same to it. The checker computes both.
 use Prim.Native.Nat.{ℕ, _≤_, _<_}
 use mathlib.Core.Path.{_≡_, refl}
 use mathlib.Core.Bool.{Bool, true}
@@ -14,11 +14,11 @@ use Rattle.machine.specs.Lists.{all}
 use Rattle.machine.specs.Tape.{tapeOf}
 use Rattle.machine.specs.Answers.{stepAnswer, runAnswer}
 use Rattle.machine.specs.Host.{returned, wordsOf, resultBytes, resultAfter, lentWith}
-use Rattle.machine.proofs.Lists.{all-at}
-use Rattle.machine.proofs.Bytes.{lt-or-ge}
-use Rattle.machine.proofs.Computed.{rules}
-use Rattle.machine.proofs.Cases.{refused, event}
-use Rattle.machine.proofs.Entries.{firstTen, lastTen, ring}
+use Rattle.machine.proofs.Laws.Lists.{all-at}
+use Rattle.machine.proofs.Laws.Bytes.{lt-or-ge}
+use Rattle.machine.proofs.Cases.Computed.{rules}
+use Rattle.machine.proofs.Cases.Case.{refused, event}
+use Rattle.machine.proofs.Cases.Entries.{firstTen, lastTen, ring}
 use Rattle.calls.specs.Calls.{Call, imageAfterAll, ledgerMessages, shownByAll}
 use Rattle.calls.specs.Calls.Call.{Step, Run, Stopped}
 use Rattle.calls.specs.Demand.{SaysStopped, Promised, given, GivenBytes}

@@ -1,6 +1,6 @@
 -- Lists of calls: document 01, "A list of calls". What a call is, its answer, the image and the ledger buffer after it,
 -- and what it shows, which is read from the call, from its answer and from that ledger buffer. The answers and buffers
--- are those that the calls' own contracts promise (machine/specs/Answers). Assumes nothing.
+-- are those that the calls' own contracts promise (machine/specs/Answers).
 use Prim.Native.Nat.{ℕ, _+_, _*_}
 use mathlib.Core.Bool.{Bool, not, cond, _&&_}
 use mathlib.Core.List.{List, [], _∷_, _++_}

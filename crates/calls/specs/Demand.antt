@@ -1,5 +1,5 @@
 -- The third demand: document 01, "A list of calls". One claim about the whole list, read off the image's bytes and off
--- what the calls showed. Assumes nothing.
+-- what the calls showed.
 use Prim.Native.Nat.{ℕ, zero, suc, _+_, _≤_, _<_}
 use mathlib.Core.Path.{_≡_}
 use mathlib.Core.List.{List, [], _∷_, _++_}

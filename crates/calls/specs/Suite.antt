@@ -1,6 +1,6 @@
 -- Lists of the calls that the suite's host makes, and the third demand over them: document 01, "A list of calls", with
 -- step, run and stopped called through plain numbers and byte slices ("The tape"). What a call shows is read from the
--- number that it returns and from the result slice and the ledger as it leaves them. Assumes nothing.
+-- number that it returns and from the result slice and the ledger as it leaves them.
 use Prim.Native.Nat.{ℕ, _*_, _≤_, _<_}
 use mathlib.Core.Path.{_≡_}
 use mathlib.Core.List.{List, [], _∷_, map}

@@ -1,5 +1,5 @@
 -- A possible event once its row is done (Next): what put and main's work may then know, and that what they make of it
--- is the rule's reaction. Assumes nothing.
+-- is the rule's reaction.
 use Prim.Native.Nat.{ℕ, _+_, _-_, _*_, _%_, _^_, _<_}
 use mathlib.Core.Path.{_≡_, refl, sym, ap, _∙_}
 use native.Mathlib.Omega.{arith}

@@ -1,5 +1,5 @@
 -- An event's bytes as code reads and tests them give the rule's event and the rule's test: each is read where the rule
--- reads it. Assumes nothing.
+-- reads it.
 use Prim.Native.Nat.{ℕ, _+_}
 use mathlib.Core.Path.{_≡_, sym, _∙_}
 use mathlib.Core.List.{List}
@@ -13,7 +13,7 @@ use Rattle.machine.specs.declared.Verdict.the-variants.{Fine, Refused}
 use Rattle.machine.specs.Bytes.{number}
 use Rattle.machine.specs.Tape.{eventIn}
 use Rattle.machine.specs.Refusals.{codes, eventFits, eventVerdict}
-use Rattle.machine.proofs.Bytes.{zeros-2, zeros-number}
+use Rattle.machine.proofs.Laws.Bytes.{zeros-2, zeros-number}
 use Rattle.event.specs.Parsed.{eventOf}
 
 module _ (s : List ℕ) (at : ℕ) {process message : ℕ} (first : process ≡ getD s at 0)

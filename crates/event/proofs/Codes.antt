@@ -1,4 +1,4 @@
--- The eight codes one by one, and none past them. Assumes nothing.
+-- The eight codes one by one, and none past them.
 use Prim.Native.Nat.{ℕ, zero, suc, _≤_, _<_}
 use mathlib.Core.Path.{_≡_}
 use native.Mathlib.Omega.{arith}

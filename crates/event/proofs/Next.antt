@@ -1,6 +1,5 @@
 -- A possible event's own record after its code's row: bits off and a sum act on each field by itself, and the checker
 -- computes the flags and the requests at every value. That record is then the rule's, before main works or put goes on.
--- Assumes nothing.
 use Prim.Native.Nat.{ℕ, zero, suc, _+_, _-_, _*_, _^_, _≤_, _<_}
 use mathlib.Core.Path.{_≡_, refl, ap, ap₂, _∙_}
 use mathlib.Core.Bool.{Bool, true, false, cond, true≢false}
@@ -18,10 +17,11 @@ use Rattle.machine.specs.Fields.{Status, full, empty, with, withStage, withNote
 use Rattle.machine.specs.Fields.{withLink, withAsked}
 use Rattle.machine.specs.Image.{processFrom, flagBits, requestBits}
 use Rattle.machine.specs.Stages.{told}
-use Rattle.machine.specs.Events.{becomes, idle, startPut, startGet, work, signal, receive, hear, put, putAt, react}
-use Rattle.machine.proofs.Lists.{every-at, agree}
-use Rattle.machine.proofs.Bits.{process-is, flags-le}
-use Rattle.machine.proofs.Ways.{by-test}
+use Rattle.machine.specs.Events.{becomes, idle, startPut, startGet, work, signal, receive, takeRequest, put, putAt}
+use Rattle.machine.specs.Events.{react}
+use Rattle.machine.proofs.Laws.Lists.{every-at, agree}
+use Rattle.machine.proofs.Laws.Bits.{process-is, flags-le}
+use Rattle.machine.proofs.Soundness.Ways.{by-test}
 use Rattle.machine.proofs.Idle.{idles}
 use Rattle.record.specs.Words.{stageOf, flagsOf, requestsOf, spareOf, noteOf, shownProcess, Tidy}
 use Rattle.record.proofs.Fields.{Fields, shows, is-tidy, all-ones}
@@ -180,7 +180,7 @@ module _ (message w : ℕ) (e : Envelope) (small : message < 2 ^ 32) (tidy : Tid
 
   pub next : (code : ℕ) → code < 8 → ((code ≡ 0 → ⊥) → message ≡ 0) → idles (react code message e p) ≡ false
       → Done code (react code message e p)
-  unfolding every react startPut startGet work signal receive hear put rowOf
+  unfolding every react startPut startGet work signal receive takeRequest put rowOf
   next code known silent moves =
       by-code (λ k. ((k ≡ 0 → ⊥) → message ≡ 0) → idles (react k message e p) ≡ false → Done k (react k message e p))
       (λ no h. by-done (Done 0) e p (eqb stage 0) _ h

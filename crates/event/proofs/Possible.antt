@@ -1,5 +1,5 @@
 -- An event is possible where its bit is set: codes 0 to 3 have theirs by the stage, which the checker goes through, in
--- byte 3, where a record has zeros; codes 4 to 7 have a flag or a request of the record. Assumes nothing.
+-- byte 3, where a record has zeros; codes 4 to 7 have a flag or a request of the record.
 use Prim.Native.Nat.{ℕ, _+_, _*_, _/_, _%_, _^_, _≤_, _<_}
 use mathlib.Core.Path.{_≡_, refl, ap, _∙_}
 use mathlib.Core.Bool.{Bool, true, false, not, cond, _||_, Bool·beq}
@@ -15,8 +15,8 @@ use Rattle.machine.specs.Bytes.{bitOf}
 use Rattle.machine.specs.Lists.{every}
 use Rattle.machine.specs.Fields.{withNews}
 use Rattle.machine.specs.Stages.{told}
-use Rattle.machine.specs.Events.{becomes, idle, startPut, startGet, work, signal, receive, hear, put, react}
-use Rattle.machine.proofs.Lists.{every-at, alike}
+use Rattle.machine.specs.Events.{becomes, idle, startPut, startGet, work, signal, receive, takeRequest, put, react}
+use Rattle.machine.proofs.Laws.Lists.{every-at, alike}
 use Rattle.machine.proofs.Idle.{idles, put-at-moves}
 use Rattle.record.specs.Words.{stageOf, flagsOf, requestsOf, noteOf, shownProcess, Tidy}
 use Rattle.record.proofs.Fields.{Fields, wordOf, made-of, with-bits}
@@ -82,7 +82,7 @@ module _ (w : ℕ) (tidy : Tidy w) (low : stageOf w ≤ 10) where
       ∙ alike 11 (λ s. bitOf (openAt s) k) f is stage (omega arith)
 
   pub possible : (code : ℕ) → code < 8 → Possible code w (not (eqb (bitAnd bits (needOf code)) 0))
-  unfolding every needOf react startPut startGet work signal receive hear put
+  unfolding every needOf react startPut startGet work signal receive takeRequest put
   possible code known m e =
       let p = shownProcess w in
       let r = becomes Moved e (withNews false p) in

@@ -1,5 +1,5 @@
 -- Main's work, at the stage that comes after it: the header's status and message change, which are fields of their own,
--- and so does the note where the envelope was filled. Assumes nothing.
+-- and so does the note where the envelope was filled.
 use Prim.Native.Nat.{ℕ, _%_, _^_, _<_}
 use mathlib.Core.Path.{_≡_, refl, ap₂, _∙_}
 use mathlib.Core.Bool.{true, false, cond}
@@ -13,9 +13,9 @@ use Rattle.machine.specs.Lists.{every}
 use Rattle.machine.specs.Fields.{Status, holding}
 use Rattle.machine.specs.Image.{processFrom}
 use Rattle.machine.specs.Events.{becomes}
-use Rattle.machine.proofs.Ways.{choice}
-use Rattle.machine.proofs.Lists.{agree}
-use Rattle.machine.proofs.Bits.{bit-is, bit-le}
+use Rattle.machine.proofs.Soundness.Ways.{choice}
+use Rattle.machine.proofs.Laws.Lists.{agree}
+use Rattle.machine.proofs.Laws.Bits.{bit-is, bit-le}
 use Rattle.record.specs.declared.process.Record.{Record}
 use Rattle.record.specs.declared.header.Header.{Header}
 use Rattle.record.specs.Words.{stageOf, flagsOf, requestsOf, spareOf, noteOf, shownProcess, shownEnvelope, Tidy}

@@ -1,4 +1,4 @@
--- What must be known before an event is applied, and what then comes of it. Assumes nothing.
+-- What must be known before an event is applied, and what then comes of it.
 use Prim.Native.Nat.{ℕ, _%_, _^_, _≤_, _<_}
 use mathlib.Core.Path.{_≡_}
 use mathlib.Core.Bool.{false, cond}

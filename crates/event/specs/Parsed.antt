@@ -1,4 +1,4 @@
--- An event as this crate hands it out. Assumes nothing.
+-- An event as this crate hands it out.
 use Rattle.machine.specs.Events as rule
 use Rattle.event.specs.declared.Event.{Event}
 

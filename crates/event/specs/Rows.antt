@@ -1,5 +1,4 @@
--- The tables of an event: which bit of a record makes a code possible, and what a code does to its own record. Assumes
--- nothing.
+-- The tables of an event: which bit of a record makes a code possible, and what a code does to its own record.
 use Prim.Native.Nat.{ℕ, _+_, _-_, _*_, _^_}
 use mathlib.Core.Path.{_≡_}
 use mathlib.Core.Bool.{Bool, not, cond, _||_}

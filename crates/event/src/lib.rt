@@ -1,14 +1,14 @@
 // An event as a struct by value: read from eight bytes, tested, and applied to the header and its process's record.
 // What it does comes back by value too, the only place where an event's effect is decided.
 // Document 01, "The eight events".
+use little_endian::number_at;
+use little_endian::wide;
 use machine::Outcome;
 use machine::Refusal;
 use machine::Verdict;
 use reaction::Reach;
 use reaction::Reaction;
 use reaction::put::put_at;
-use record::byte::number_at;
-use record::byte::wide;
 use record::header::Header;
 use record::process;
 use record::process::Record;

@@ -1,5 +1,5 @@
 -- The two ends of the fresh ring call are the rule's: a verdict that refuses keeps the buffer, and a fine one gives the
--- fresh image. Assumes nothing.
+-- fresh image.
 use Prim.Native.Nat.{ℕ}
 use mathlib.Core.Path.{_≡_, _∙_}
 use mathlib.Core.List.{List, []}

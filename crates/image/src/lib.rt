@@ -1,13 +1,13 @@
 // The ring type: its sizes, the neighbours of a process, and the fresh ring call.
 use machine::Refusal;
 use machine::Verdict;
-use refusal::refusal_of;
+use numbers::refusal_of;
 use span::clear;
 ghost use mathlib.Core.Path.{_≡_};
 ghost use Prim.Native.Nat.{_<_};
 ghost use Rattle.machine.specs.Ring as rule;
 ghost use Rattle.machine.specs.Answers.{freshVerdict, freshAnswer, freshImage};
-ghost use Rattle.image.specs.Fresh.{told, refusalOf};
+ghost use Rattle.image.specs.Fresh.{inNumbers, refusalOf};
 
 // A ring of so many processes, numbered from 0.
 pub struct Ring {
@@ -64,7 +64,7 @@ impl Ring {
     // The fresh ring call: an image of n processes that is all zero but for n and for the envelope at home, at the
     // start of a buffer whose further bytes stay; or the refusal of its verdict.
     pub fn fresh(n: u64, home: u64, image: &mut [u8]) -> FreshAnswer
-        ensures answer { λ r. ⌜ told r ≡ freshAnswer n home (now (image .entry)) ⌝ }
+        ensures answer { λ r. ⌜ inNumbers r ≡ freshAnswer n home (now (image .entry)) ⌝ }
         ensures buffer { λ _. ⌜ now (image .exit) ≡ freshImage n home (now (image .entry)) ⌝ }
     {
         let verdict = Ring::fresh_verdict(n, home, image);

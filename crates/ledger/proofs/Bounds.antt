@@ -1,6 +1,6 @@
--- One event more adds at most one to each count, so a bound on all of them goes up by at most one. Assumes nothing.
+-- One event more adds at most one to each count, so a bound on all of them goes up by at most one.
 use Prim.Native.Nat.{ℕ, _+_, _≤_}
-use mathlib.Core.Bool.{Bool, not}
+use mathlib.Core.Bool.{Bool}
 use mathlib.Core.List.{List, [], _∷_}
 use native.Mathlib.Omega.{arith}
 use borrow.Author.Needs.{needs}
@@ -11,7 +11,7 @@ use Rattle.machine.specs.Bytes.{bit}
 use Rattle.machine.specs.Image.{State}
 use Rattle.machine.specs.Events.{Event, outcome, apply}
 use Rattle.machine.specs.Run.{noCounts, counted, countsFrom}
-use Rattle.machine.proofs.Bits.{bit-le}
+use Rattle.machine.proofs.Laws.Bits.{bit-le}
 use Rattle.ledger.specs.Bounds.{NoneAbove}
 
 pub none-above-le : {k m : ℕ} {c : Counts} → k ≤ m → NoneAbove k c → NoneAbove m c

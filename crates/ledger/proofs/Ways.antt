@@ -1,5 +1,5 @@
 -- Each way through this crate's functions is the rule's: three stores of four bytes one after the other are one record,
--- and it is left out where it has no room. Assumes nothing.
+-- and it is left out where it has no room.
 use Prim.Native.Nat.{ℕ, _+_, _≤_, _<_}
 use mathlib.Core.Path.{_≡_, ap, _∙_}
 use mathlib.Core.List.{List, [], _∷_, _++_, append-assoc}
@@ -9,7 +9,7 @@ use borrow.Author.Tests.{le-leb, lt-leb}
 use Rattle.machine.specs.declared.Outcome.{Outcome}
 use Rattle.machine.specs.Bytes.{bytes, splice}
 use Rattle.machine.specs.Run.{outcomeNumber, outcomeMessage, ledgerRecord, ledgerEntry}
-use Rattle.machine.proofs.Bytes.{length-bytes, splice-next}
+use Rattle.machine.proofs.Laws.Bytes.{length-bytes, splice-next}
 use Rattle.machine.proofs.Tallies.{length-record}
 use Rattle.ledger.specs.Record.{recordOf, enteredIn}
 

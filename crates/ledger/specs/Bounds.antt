@@ -1,4 +1,4 @@
--- A bound on all eight counts of a run: after k events no count is above k. Assumes nothing.
+-- A bound on all eight counts of a run: after k events no count is above k.
 use Prim.Native.Nat.{ℕ, _≤_}
 use Rattle.machine.specs.declared.Counts.{Counts}
 

@@ -1,4 +1,4 @@
--- A ledger record by its numbers: the rule's record is that of an outcome's number and message. Assumes nothing.
+-- A ledger record by its numbers: the rule's record is that of an outcome's number and message.
 use Prim.Native.Nat.{ℕ, _+_}
 use mathlib.Core.Bool.{cond}
 use mathlib.Core.List.{List, [], _∷_, _++_}

@@ -1,42 +1,16 @@
 // A run's ledger, which is its trace. Document 01, "The run".
 use event::Event;
+use little_endian::put_four;
+use little_endian::put_number;
 use machine::Outcome;
-use record::byte::put_four;
-use record::byte::put_number;
+use numbers::outcome_message;
+use numbers::outcome_number;
 ghost use mathlib.Core.Path.{_≡_};
 ghost use Prim.Native.Nat.{_+_, _≤_, _<_};
 ghost use lib.ListN.{length};
 ghost use Rattle.machine.specs.Bytes.{splice};
-ghost use Rattle.machine.specs.Run.{outcomeNumber, outcomeMessage, ledgerEntry};
+ghost use Rattle.machine.specs.Run.{outcomeNumber, ledgerEntry};
 ghost use Rattle.ledger.specs.Record.{recordOf, enteredIn};
-
-// Internal: an outcome's number, 0 to 5; of fill, take, sent and got it is the ledger's code.
-pub fn outcome_number(outcome: Outcome) -> u8
-    ensures { λ r. ⌜ r ≡ outcomeNumber outcome ⌝ }
-{
-    match outcome {
-        Outcome::Idle => 0,
-        Outcome::Moved => 1,
-        Outcome::Fill(_) => 2,
-        Outcome::Take(_) => 3,
-        Outcome::Sent => 4,
-        Outcome::Got => 5,
-    }
-}
-
-// Internal: its message: that of a fill or a take, else 0.
-pub fn outcome_message(outcome: Outcome) -> u32
-    ensures { λ r. ⌜ r ≡ outcomeMessage outcome ⌝ }
-{
-    match outcome {
-        Outcome::Idle => 0,
-        Outcome::Moved => 0,
-        Outcome::Fill(message) => message,
-        Outcome::Take(message) => message,
-        Outcome::Sent => 0,
-        Outcome::Got => 0,
-    }
-}
 
 // Internal: a record, written from `at` on: event number, process, code, two zeros, message.
 pub fn put_record(ledger: &mut [u8], at: usize, number: u32, process: u8, code: u8, message: u32)

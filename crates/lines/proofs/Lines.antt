@@ -1,4 +1,4 @@
--- Fields one after the other are a line. Assumes nothing.
+-- Fields one after the other are a line.
 use Prim.Native.Nat.{ℕ, _+_, _*_, _^_, _≤_, _<_}
 use mathlib.Core.Path.{_≡_}
 use mathlib.Core.List.{List, [], _∷_, _++_, append-assoc}
@@ -15,11 +15,12 @@ use Rattle.machine.specs.Refusals.{numberOf, placeOf}
 use Rattle.machine.specs.Report.{codeWord, recordLine, recordLines, countsLine, refusalLine}
 use Rattle.machine.proofs.Text.{decimal-8, decimal-32, line-more}
 use Rattle.text.specs.Piece.{Piece}
-use Rattle.blocks.proofs.Joined.{join-more}
+use Rattle.machine.proofs.Laws.Joined.{join-more}
 use Rattle.text.proofs.Laws.{piece-none, piece-then}
 
 -- the last field of a line
-pub field-last : {s t : List ℕ} {at end : ℕ} (f : List ℕ) → Piece s at (f ++ (lineFeed ∷ [])) t end → Piece s at (line f []) t end
+pub field-last : {s t : List ℕ} {at end : ℕ} (f : List ℕ) → Piece s at (f ++ (lineFeed ∷ [])) t end
+    → Piece s at (line f []) t end
 unfolding line
 field-last f put = put
 

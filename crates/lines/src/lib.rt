@@ -1,11 +1,11 @@
 // The lines of ringrun's text, written into a page. Every function answers the place where the text goes on.
 // Document 01, "The tape", its last paragraph.
+use little_endian::number_at;
+use little_endian::wide64;
 use machine::Counts;
 use machine::Refusal;
-use record::byte::number_at;
-use record::byte::wide64;
-use refusal::number_of;
-use refusal::place_of;
+use numbers::number_of;
+use numbers::place_of;
 use text::decimal_field;
 use text::text_field;
 ghost use mathlib.Core.List.{[], _∷_, _++_};
@@ -54,7 +54,8 @@ fn put_line(page: &mut [u8], at: usize, ledger: &[u8], k: usize) -> usize
 // The lines of a ledger's first records, from the page's start on.
 fn put_lines(page: &mut [u8], ledger: &[u8], records: usize) -> usize
     requires { ⌜ (31 * records ≤ length (now page)) × (12 * records ≤ length (now ledger)) ⌝ }
-    ensures piece { λ r. ⌜ Piece (now (page .entry)) 0 (recordLines (now (ledger .entry)) records) (now (page .exit)) r ⌝ }
+    ensures piece { λ r. ⌜ Piece (now (page .entry)) 0 (recordLines (now (ledger .entry)) records)
+        (now (page .exit)) r ⌝ }
     ensures short { λ r. ⌜ r ≤ 31 * records ⌝ }
 {
     let mut at = 0;

@@ -2,7 +2,6 @@
 -- more by which a get takes the message and the ring is stopped after all. And in every ring: where the put of a full
 -- envelope has ended, one more put has ended than messages were taken. When the ring is stopped as many gets as puts
 -- have ended, and no get ends before its take: so a message has been taken since, the envelope's own before any other.
--- Assumes nothing.
 use Prim.Native.Nat.{ℕ, _+_, _≤_}
 use mathlib.Core.Path.{_≡_, refl, sym, ap, _∙_}
 use mathlib.Core.Bool.{true, false}
@@ -19,8 +18,8 @@ use Rattle.machine.specs.Stopped.{stopped, Stopped}
 use Rattle.machine.specs.Run.{countsFrom, noCounts, after}
 use Rattle.machine.specs.Balance.{filledFrom, takenFrom, ownMessage, Totals, totalsOf, totalsFrom, onRing}
 use Rattle.machine.specs.Alone.{PutEnded, EndsAlone, OncePutEnded, NoStopWithoutTake, StoppedOnceTaken}
-use Rattle.machine.proofs.Computed.{rules}
-use Rattle.machine.proofs.Fresh.{length-fresh}
+use Rattle.machine.proofs.Cases.Computed.{rules}
+use Rattle.machine.proofs.Image.Fresh.{length-fresh}
 use Rattle.machine.proofs.Stopped.{stopped-means}
 use Rattle.machine.proofs.Runs.{length-after}
 use Rattle.machine.proofs.Tallies.{sent-add}

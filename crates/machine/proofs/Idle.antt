@@ -1,5 +1,5 @@
 -- An idle event changes nothing, and a put with news is never idle. Each part of a put hands the outcome on, so it is
--- moved, sent or got; every other event that does something says moved, fill or take. Assumes nothing.
+-- moved, sent or got; every other event that does something says moved, fill or take.
 use Prim.Native.Nat.{ℕ}
 use mathlib.Core.Path.{_≡_, refl, sym, ap, _∙_}
 use mathlib.Core.Bool.{Bool, true, false, not, cond, true≢false}
@@ -19,13 +19,13 @@ use Rattle.machine.specs.Image.{State}
 use Rattle.machine.specs.Stages.{told}
 use Rattle.machine.specs.Events.{Event, becomes, idle, ask, markFor, mark, unmark, clear}
 use Rattle.machine.specs.Events.{wanted, leave}
-use Rattle.machine.specs.Events.{heeding, forward, ends, putAt}
-use Rattle.machine.specs.Events.{startPut, startGet, work, signal, receive, hear, put, react}
+use Rattle.machine.specs.Events.{setMarkers, forward, ends, putAt}
+use Rattle.machine.specs.Events.{startPut, startGet, work, signal, receive, takeRequest, put, react}
 use Rattle.machine.specs.Events.{requested, arrived, processAt, change, place, reaction, outcome, apply}
 use Rattle.machine.specs.Stopped.{isIdle}
-use Rattle.machine.proofs.Around.{no-request, no-arrival}
-use Rattle.machine.proofs.Ways.{choice, every-code}
-use Rattle.machine.proofs.Parts.{put-keeps}
+use Rattle.machine.proofs.Soundness.Around.{no-request, no-arrival}
+use Rattle.machine.proofs.Soundness.Ways.{choice, every-code}
+use Rattle.machine.proofs.Soundness.Parts.{put-keeps}
 
 -- ---- a put moves
 
@@ -50,8 +50,8 @@ unfolding clear unmark
 clear-moves s r h = choice Moves (for (r .process .mark) s) _ _ h h
 
 forward-moves : (r : Reaction) → Moves r → Moves (forward r)
-unfolding forward leave heeding
-forward-moves r h = choice Moves (wanted (heeding r .envelope)) (leave (heeding r)) (heeding r) h h
+unfolding forward leave setMarkers
+forward-moves r h = choice Moves (wanted (setMarkers r .envelope)) (leave (setMarkers r)) (setMarkers r) h h
 
 -- a put that is over was sent or got
 over-moves : (o : Outcome) (r : Reaction) → (o ≡ Sent) ⊎ (o ≡ Got) → Moves r → Moves (ends o r)
@@ -102,9 +102,9 @@ module _ (e : Envelope) (p : Process) where
   unfolding receive
   receive-honest = done-or-idle e p (p .arriving) _ refl
 
-  hear-honest : (s : Status) → Honest e p (hear s e p)
-  unfolding hear
-  hear-honest s = done-or-idle e p (for (p .link) s) _ refl
+  request-honest : (s : Status) → Honest e p (takeRequest s e p)
+  unfolding takeRequest
+  request-honest s = done-or-idle e p (for (p .link) s) _ refl
 
   put-honest : Honest e p (put e p)
   unfolding put
@@ -115,7 +115,7 @@ module _ (e : Envelope) (p : Process) where
 pub react-honest : (code m : ℕ) (e : Envelope) (p : Process) → Honest e p (react code m e p)
 react-honest code m e p =
     every-code (Honest e p) code m e p (start-put-honest e p m) (start-get-honest e p) (work-honest e p)
-    (signal-honest e p) (receive-honest e p) (hear-honest e p) (put-honest e p) (still e p)
+    (signal-honest e p) (receive-honest e p) (request-honest e p) (put-honest e p) (still e p)
 
 -- ---- on the ring
 

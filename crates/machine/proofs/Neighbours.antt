@@ -1,5 +1,5 @@
 -- An event changes at most one neighbour: only a process without the envelope asks, and only one with it lets it leave.
--- Each part of a put hands on what another part did for the neighbours. Other events change none. Assumes nothing.
+-- Each part of a put hands on what another part did for the neighbours. Other events change none.
 use Prim.Native.Nat.{ℕ}
 use mathlib.Core.Path.{_≡_, refl, _∙_}
 use mathlib.Core.Bool.{Bool, false, not, cond, Bool·beq}
@@ -13,9 +13,9 @@ use Rattle.machine.specs.declared.Outcome.the-variants.{Moved}
 use Rattle.machine.specs.Fields.{Status, full, empty, none, for, withNews, withStage}
 use Rattle.machine.specs.Stages.{told}
 use Rattle.machine.specs.Events.{becomes, changed, idle, ask, pass, markFor, mark, unmark, clear, wanted}
-use Rattle.machine.specs.Events.{leave, heeding, forward, ends, stroll, wait, endPut, putAt}
-use Rattle.machine.specs.Events.{startPut, startGet, work, signal, receive, hear, put, react}
-use Rattle.machine.proofs.Ways.{choice, pass-keeps, every-stage, every-code}
+use Rattle.machine.specs.Events.{leave, setMarkers, forward, ends, relay, wait, endPut, putAt}
+use Rattle.machine.specs.Events.{startPut, startGet, work, signal, receive, takeRequest, put, react}
+use Rattle.machine.proofs.Soundness.Ways.{choice, pass-keeps, every-stage, every-code}
 
 -- a choice between two that agree in something
 in-both : {A : Type 0} (f : Reaction → A) (b : Bool) (x y : Reaction) {a : A} → f x ≡ a → f y ≡ a → f (cond b x y) ≡ a
@@ -48,8 +48,8 @@ unfolding clear unmark
 clear-asks s r = in-both asksOf (for (r .process .mark) s) _ _ refl refl
 
 forward-asks : (r : Reaction) → forward r .asks ≡ r .asks
-unfolding forward leave heeding
-forward-asks r = in-both asksOf (wanted (heeding r .envelope)) (leave (heeding r)) (heeding r) refl refl
+unfolding forward leave setMarkers
+forward-asks r = in-both asksOf (wanted (setMarkers r .envelope)) (leave (setMarkers r)) (setMarkers r) refl refl
 
 end-put-asks : (r : Reaction) → endPut r .asks ≡ r .asks
 unfolding endPut ends
@@ -62,10 +62,11 @@ abbrev pub OneSide : Reaction → Type 0
 OneSide r = (r .asks ≡ none) ⊎ (r .leaves ≡ false)
 
 module _ (r : Reaction) (unasked : r .asks ≡ none) (here : r .leaves ≡ false) where
-  stroll-side : OneSide (stroll r)
-  unfolding stroll
-  stroll-side =
-      choice OneSide (r .process .have) (forward r) (pass r) (inl (forward-asks r ∙ unasked)) (inr (pass-leaves r ∙ here))
+  relay-side : OneSide (relay r)
+  unfolding relay
+  relay-side =
+      choice OneSide (r .process .have) (forward r) (pass r) (inl (forward-asks r ∙ unasked))
+      (inr (pass-leaves r ∙ here))
 
   wait-side : (s : Status) (next : ℕ) → OneSide (wait s next r)
   unfolding wait
@@ -73,13 +74,14 @@ module _ (r : Reaction) (unasked : r .asks ≡ none) (here : r .leaves ≡ false
       let on = changed r (r .envelope) (withStage next (r .process)) in
       let right-one = Bool·beq (r .envelope .full) s in
       choice OneSide (r .process .have) (cond right-one on (forward (mark r))) (pass (ask s r))
-      (choice OneSide right-one on (forward (mark r)) (inl unasked) (inl (forward-asks (mark r) ∙ mark-asks r ∙ unasked)))
+      (choice OneSide right-one on (forward (mark r)) (inl unasked)
+      (inl (forward-asks (mark r) ∙ mark-asks r ∙ unasked)))
       (inr (pass-leaves (ask s r) ∙ ask-leaves s r ∙ here))
 
   put-at-side : (stage : ℕ) → OneSide (putAt stage r)
   unfolding ends
   put-at-side stage =
-      every-stage OneSide stage r stroll-side (wait-side empty 3) (wait-side full 8)
+      every-stage OneSide stage r relay-side (wait-side empty 3) (wait-side full 8)
       (inl (end-put-asks (forward (clear empty r)) ∙ forward-asks (clear empty r) ∙ clear-asks empty r ∙ unasked))
       (inl (forward-asks (clear full r) ∙ clear-asks full r ∙ unasked)) (inl unasked)
 
@@ -115,9 +117,9 @@ module _ (e : Envelope) (p : Process) where
   unfolding receive
   receive-alone = own-alone e p (p .arriving) _ (refl, refl)
 
-  hear-alone : (s : Status) → NoSide (hear s e p)
-  unfolding hear
-  hear-alone s = own-alone e p (for (p .link) s) _ (refl, refl)
+  request-alone : (s : Status) → NoSide (takeRequest s e p)
+  unfolding takeRequest
+  request-alone s = own-alone e p (for (p .link) s) _ (refl, refl)
 
   put-side : OneSide (put e p)
   unfolding put
@@ -131,4 +133,4 @@ pub one-neighbour : (code m : ℕ) (e : Envelope) (p : Process) → OneSide (rea
 one-neighbour code m e p =
     every-code OneSide code m e p (inl (start-put-alone e p m .0)) (inl (start-get-alone e p .0))
     (inl (work-alone e p .0)) (inl (signal-alone e p .0)) (inl (receive-alone e p .0))
-    (λ s. inl (hear-alone e p s .0)) (put-side e p) (inl refl)
+    (λ s. inl (request-alone e p s .0)) (put-side e p) (inl refl)

@@ -1,5 +1,5 @@
--- What ringrun writes depends on no more of its input than it reads: one byte more than can be accepted shows that there
--- is too much, and what is then refused is N, the home or the length. Assumes nothing.
+-- What ringrun writes depends on no more of its input than it reads: one byte more than can be accepted shows that
+-- there is too much, and what is then refused is N, the home or the length.
 use Prim.Native.Nat.{ℕ, _≤_, _<_}
 use mathlib.Core.Path.{_≡_, refl, sym, ap, _∙_}
 use mathlib.Core.List.{List, []}
@@ -15,7 +15,7 @@ use Rattle.machine.specs.declared.Verdict.{Verdict}
 use Rattle.machine.specs.declared.Verdict.the-variants.{Fine, Refused}
 use Rattle.machine.specs.Refusals.{orElse, sizeVerdict, homeVerdict}
 use Rattle.machine.specs.Report.{fewVerdict, reportVerdict, textBy, reportText, sizeGiven, homeGiven, tapeGiven}
-use Rattle.machine.proofs.Bytes.{lt-or-ge}
+use Rattle.machine.proofs.Laws.Bytes.{lt-or-ge}
 
 -- one byte more than N, home and 64 blocks
 abbrev pub mostRead : ℕ
@@ -42,7 +42,8 @@ unfolding reportText reportVerdict
 too-long input h =
     let long = few-refused (tapeGiven input) (rw (length-drop 2 input) (omega arith)) in
     rw long
-    (refused-anyway (sizeVerdict (sizeGiven input)) (homeVerdict (sizeGiven input) (homeGiven input)) refusal.Length _ [])
+    (refused-anyway (sizeVerdict (sizeGiven input)) (homeVerdict (sizeGiven input) (homeGiven input)) refusal.Length _
+    [])
 
 pub read-enough : (input : List ℕ) → reportText (take mostRead input) ≡ reportText input
 read-enough input = go (lt-or-ge mostRead (length input))

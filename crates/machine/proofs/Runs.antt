@@ -1,5 +1,5 @@
 -- An accepted image after a list of events is accepted again, with the same N and length, and its state is the rules'
--- own: so it is after one event (Kept), and a state written over another leaves nothing of it. Assumes nothing.
+-- own: so it is after one event (Kept), and a state written over another leaves nothing of it.
 use Prim.Native.Nat.{ℕ, _^_, _<_}
 use mathlib.Core.Path.{_≡_, refl, sym, ap, subst, _∙_}
 use mathlib.Core.Bool.{Bool, true, _&&_}
@@ -14,11 +14,12 @@ use Rattle.machine.specs.Image.{State, sizeIn, stateIn, imageWith}
 use Rattle.machine.specs.Events.{Event, apply}
 use Rattle.machine.specs.Run.{after}
 use Rattle.machine.specs.Refusals.{imageVerdict}
-use Rattle.machine.proofs.Lists.{and-first, and-second}
-use Rattle.machine.proofs.Rewrite.{rewrite-image}
-use Rattle.machine.proofs.Refusals.{image-fine}
-use Rattle.machine.proofs.Kept.{length-applied, imageAfter, size-kept, image-over, state-kept, length-kept}
-use Rattle.machine.proofs.Kept.{bytes-kept, sound-kept}
+use Rattle.machine.proofs.Laws.Lists.{and-first, and-second}
+use Rattle.machine.proofs.Image.Rewrite.{rewrite-image}
+use Rattle.machine.proofs.Laws.Refusals.{image-fine}
+use Rattle.machine.proofs.Soundness.Kept.{length-applied, imageAfter, size-kept, image-over, state-kept}
+use Rattle.machine.proofs.Soundness.Kept.{length-kept}
+use Rattle.machine.proofs.Soundness.Kept.{bytes-kept, sound-kept}
 
 -- at a process of a ring of n, with a message of 32 bits
 abbrev pub fitting : ℕ → Event → Bool

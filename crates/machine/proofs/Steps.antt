@@ -1,5 +1,5 @@
 -- The step call on the whole: after it an accepted image is accepted again, with the same N, whatever the event's
--- bytes; and an idle event changes no byte. Assumes nothing.
+-- bytes; and an idle event changes no byte.
 use Prim.Native.Nat.{ℕ}
 use mathlib.Core.Path.{_≡_, refl, ap, _∙_}
 use mathlib.Core.Bool.{true}
@@ -13,11 +13,11 @@ use Rattle.machine.specs.Tape.{eventIn}
 use Rattle.machine.specs.Refusals.{codes, imageVerdict, eventVerdict}
 use Rattle.machine.specs.Answers.{lent, stepVerdict, stepImage}
 use Rattle.machine.specs.Bytes.{Bytes}
-use Rattle.machine.proofs.Bytes.{number-lt}
-use Rattle.machine.proofs.Rewrite.{rewrite-image}
-use Rattle.machine.proofs.Refusals.{image-fine, event-below}
+use Rattle.machine.proofs.Laws.Bytes.{number-lt}
+use Rattle.machine.proofs.Image.Rewrite.{rewrite-image}
+use Rattle.machine.proofs.Laws.Refusals.{image-fine, event-below}
 use Rattle.machine.proofs.Idle.{idle-keeps}
-use Rattle.machine.proofs.Kept.{size-kept, sound-kept, bytes-kept}
+use Rattle.machine.proofs.Soundness.Kept.{size-kept, sound-kept, bytes-kept}
 
 module _ (s event : List ℕ) (fine : imageVerdict s ≡ Fine) (small : Bytes s) (small-event : Bytes event) where
   -- what holds of the image before and of the image after every accepted event holds after the call

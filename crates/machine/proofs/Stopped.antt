@@ -1,5 +1,5 @@
 -- Stopped means what it says: yes exactly when for every process and every code 2 to 7 the outcome is idle. And a
--- process is quiet exactly when no event finds anything to do at it, which is how code asks. Assumes nothing.
+-- process is quiet exactly when no event finds anything to do at it, which is how code asks.
 use Prim.Native.Nat.{ℕ, zero, suc, _≤_}
 use mathlib.Core.Path.{_≡_, refl, _∙_}
 use mathlib.Core.Bool.{Bool, true, false, not, cond, _&&_, and-true, and-assoc, false≢true}
@@ -14,10 +14,10 @@ use Rattle.machine.specs.Lists.{all}
 use Rattle.machine.specs.Fields.{Status, full, empty, for, blank}
 use Rattle.machine.specs.Image.{State}
 use Rattle.machine.specs.Stages.{told}
-use Rattle.machine.specs.Events.{idle, work, signal, receive, hear, put, react, processAt, reaction}
+use Rattle.machine.specs.Events.{idle, work, signal, receive, takeRequest, put, react, processAt, reaction}
 use Rattle.machine.specs.Events.{outcome}
 use Rattle.machine.specs.Stopped.{isIdle, quiet, stopped, Stopped}
-use Rattle.machine.proofs.Lists.{and-first, and-second, all-at, all-each}
+use Rattle.machine.proofs.Laws.Lists.{and-first, and-second, all-at, all-each}
 use Rattle.machine.proofs.Idle.{idles, put-at-moves}
 
 -- ---- the outcome idle, as a test and as a fact
@@ -129,9 +129,9 @@ idle-receive : (e : Envelope) (p : Process) → idles (receive e p) ≡ not (p .
 unfolding receive
 idle-receive e p = idles-unless e p (p .arriving) _ refl
 
-idle-hear : (s : Status) (e : Envelope) (p : Process) → idles (hear s e p) ≡ not (for (p .link) s)
-unfolding hear
-idle-hear s e p = idles-unless e p (for (p .link) s) _ refl
+idle-request : (s : Status) (e : Envelope) (p : Process) → idles (takeRequest s e p) ≡ not (for (p .link) s)
+unfolding takeRequest
+idle-request s e p = idles-unless e p (for (p .link) s) _ refl
 
 idle-put : (e : Envelope) (p : Process) → idles (put e p) ≡ not (p .news)
 unfolding put
@@ -151,8 +151,8 @@ quiet-nothing e p =
       idle-work e p,
       idle-signal e p,
       idle-receive e p,
-      idle-hear full e p,
-      idle-hear empty e p,
+      idle-request full e p,
+      idle-request empty e p,
       idle-put e p,
     )
     (simp (and-true, and-assoc))

@@ -1,6 +1,6 @@
 -- A run's counts and the length of its ledger: each count is what was there before and the events' own, since one event
--- adds to each count by itself; and the ledger has 12 bytes for each record counted. Assumes nothing.
-use Prim.Native.Nat.{ℕ, _+_, _*_}
+-- adds to each count by itself; and the ledger has 12 bytes for each record counted.
+use Prim.Native.Nat.{ℕ, _+_, _*_, _≤_}
 use mathlib.Core.Path.{_≡_, refl, _∙_}
 use mathlib.Core.Bool.{Bool, true, false, not, cond, _&&_}
 use mathlib.Core.List.{List, [], _∷_}
@@ -10,11 +10,13 @@ use lib.Dec.{eqb}
 use Rattle.machine.specs.declared.Counts.{Counts}
 use Rattle.machine.specs.declared.Outcome.{Outcome}
 use Rattle.machine.specs.Bytes.{bit}
-use Rattle.machine.specs.Image.{State}
+use Rattle.machine.specs.Image.{State, stateIn}
 use Rattle.machine.specs.Events.{Event, outcome, apply}
 use Rattle.machine.specs.Run.{outcomeNumber, recorded, ledgerRecord, ledgerEntry, ledgerFrom, noCounts, counted}
 use Rattle.machine.specs.Run.{countsFrom}
-use Rattle.machine.proofs.Bytes.{length-bytes}
+use Rattle.machine.specs.Answers.{runEvents, runRecords}
+use Rattle.machine.proofs.Laws.Bits.{bit-le}
+use Rattle.machine.proofs.Laws.Bytes.{length-bytes}
 
 -- ---- one count
 
@@ -120,3 +122,26 @@ length-ledger (v ∷ vs) number st =
       length-ledger vs (number + 1) (apply st v),
       records-more st v vs,
     )
+
+-- ---- of a run
+
+-- how many records events have from a state on
+abbrev pub recordsFrom : State → List Event → ℕ
+recordsFrom st vs = countsFrom noCounts st vs .records
+
+-- an event has at most one record
+pub records-few : (vs : List Event) (st : State) → recordsFrom st vs ≤ length vs
+unfolding countsFrom
+records-few [] st = omega arith
+records-few (v ∷ vs) st =
+    omega (
+      arith,
+      records-more st v vs,
+      bit-le (recorded (outcome st v)),
+      records-few vs (apply st v),
+    )
+
+-- the ledger's bytes by its records
+pub length-records : (s tape : List ℕ) → length (runRecords s tape) ≡ 12 * recordsFrom (stateIn s) (runEvents tape)
+unfolding runRecords
+length-records s tape = length-ledger (runEvents tape) 0 (stateIn s)

@@ -1,5 +1,5 @@
--- Laws of numbers in decimal: as code writes them, one digit behind the others, and how many digits there are at most. A
--- number has more turns than digits, so the number of turns doesn't matter. Assumes nothing.
+-- Laws of numbers in decimal: as code writes them, one digit behind the others, and how many digits there are at most.
+-- A number has more turns than digits, so the number of turns doesn't matter.
 use Prim.Native.Nat.{ℕ, zero, suc, _+_, _/_, _%_, _^_, _≤_, _<_}
 use mathlib.Core.Path.{_≡_, refl, sym, ap, _∙_}
 use mathlib.Core.Bool.{Bool, true, false, cond}
@@ -11,7 +11,7 @@ use lib.ListN.{length, length-append}
 use lib.Dec.{ltb}
 use borrow.Author.Tests.{ltb-false, lt-ltb, le-ltb}
 use Rattle.machine.specs.Text.{digitCode, digits, decimal, space, line}
-use Rattle.machine.proofs.Bytes.{lt-or-ge}
+use Rattle.machine.proofs.Laws.Bytes.{lt-or-ge}
 
 -- ---- in decimal
 
@@ -39,7 +39,8 @@ pub decimal-more : (n : ℕ) → 10 ≤ n → decimal n ≡ decimal (n / 10) ++ 
 unfolding decimal digits
 decimal-more n h =
     rw (le-ltb n 10 h)
-    (ap (λ (l : List ℕ). l ++ (digitCode (n % 10) ∷ [])) (turns-enough n (suc (n / 10)) (n / 10) (omega arith) (omega arith)))
+    (ap (λ (l : List ℕ). l ++ (digitCode (n % 10) ∷ []))
+    (turns-enough n (suc (n / 10)) (n / 10) (omega arith) (omega arith)))
 
 -- ---- how many digits
 

@@ -1,6 +1,5 @@
 -- Entry 10: document 01, "Ten entries to try". A request for full that crossed the envelope may outlive the get that it
--- served, and then a put may end alone; from there the ring isn't stopped before a get has taken the message. Assumes
--- nothing.
+-- served, and then a put may end alone; from there the ring isn't stopped before a get has taken the message.
 use Prim.Native.Nat.{ℕ, _≤_, _<_}
 use mathlib.Core.Path.{_≡_}
 use mathlib.Core.Bool.{true, false}
@@ -46,9 +45,9 @@ pub record EndedAlone (st : State) (t : Totals) : Type 0 where
 
 -- ---- a put may end alone
 
--- how a ring of n comes to that, by events in three parts: a request for full crosses the envelope; later the full marker
--- is set with no receiver; and then a put ends alone. That the one comes of the other is seen in the lists, and not said
--- here
+-- how a ring of n comes to that, by events in three parts: a request for full crosses the envelope; later the full
+-- marker is set with no receiver; and then a put ends alone. That the one comes of the other is seen in the lists, and
+-- not said here
 pub record EndsAlone (n home : ℕ) (crosses outlives ends : List Event) : Type 0 where
   pub on-ring : onRing n (crosses ++ (outlives ++ ends)) ≡ true
   pub crossing : Crossing (after (freshState n home) crosses)

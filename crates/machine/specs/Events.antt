@@ -1,5 +1,5 @@
 -- The eight events: document 01, "The eight events", in its order. An event at a process reads the envelope and that
--- process's record alone; what it does is a reaction, which is then placed on the ring. Assumes nothing.
+-- process's record alone; what it does is a reaction, which is then placed on the ring.
 use Prim.Native.Nat.{ℕ, zero, suc, pred, _+_}
 use mathlib.Core.Bool.{Bool, true, false, not, cond, _||_, Bool·beq}
 use mathlib.Core.List.{List}
@@ -105,12 +105,12 @@ leave r =
     }
 
 -- each status that the right has asked for sets its marker
-unfoldable pub heeding : Reaction → Reaction
-heeding r = changed r (withMarker (either (r .envelope .marker) (r .process .asked)) (r .envelope)) (r .process)
+unfoldable pub setMarkers : Reaction → Reaction
+setMarkers r = changed r (withMarker (either (r .envelope .marker) (r .process .asked)) (r .envelope)) (r .process)
 
 -- Forward: the markers first; then the envelope leaves if its status is wanted, else it stays.
 unfoldable pub forward : Reaction → Reaction
-forward r = cond (wanted (heeding r .envelope)) (leave (heeding r)) (heeding r)
+forward r = cond (wanted (setMarkers r .envelope)) (leave (setMarkers r)) (setMarkers r)
 
 -- a put or a get ends: stage 0, with outcome o
 unfoldable pub ends : Outcome → Reaction → Reaction
@@ -126,8 +126,8 @@ ends o r =
 -- ---- put, by stage
 
 -- stages 0, 1, 6, which wait for nothing: the envelope goes on if it is here, and requests are passed if it isn't
-unfoldable pub stroll : Reaction → Reaction
-stroll r = cond (r .process .have) (forward r) (pass r)
+unfoldable pub relay : Reaction → Reaction
+relay r = cond (r .process .have) (forward r) (pass r)
 
 -- stages 2 and 7, waiting for s: without the envelope ask for s, then pass requests; with it of that status to the
 -- stage `next`; with it of the other, mark and forward
@@ -144,7 +144,7 @@ endPut r = cond (r .leaves) (ends Sent r) r
 -- by the stage that the put finds; stages 3, 4, 8 and 9 do no more
 unfoldable pub putAt : ℕ → Reaction → Reaction
 putAt stage r =
-    cond (plain stage) (stroll r)
+    cond (plain stage) (relay r)
     (cond (eqb stage 2) (wait empty 3 r)
     (cond (eqb stage 7) (wait full 8 r)
     (cond (eqb stage 5) (endPut (forward (clear empty r)))
@@ -168,7 +168,8 @@ work e p =
     (cond (eqb (p .stage) 8) (becomes (Take (e .message)) (holding empty 0 e) (withStage 9 p))
     (idle e p))
 
--- code 3, the local signal: a stage at which main has told something (1, 4, 6, 9) becomes the next one, and put has news
+-- code 3, the local signal: a stage at which main has told something (1, 4, 6, 9) becomes the next one, and put has
+-- news
 unfoldable pub signal : Envelope → Process → Reaction
 signal e p = cond (told (p .stage)) (becomes Moved e (withStage (p .stage + 1) (withNews true p))) (idle e p)
 
@@ -177,8 +178,8 @@ unfoldable pub receive : Envelope → Process → Reaction
 receive e p = cond (p .arriving) (becomes Moved e (withArriving false (withHave true (withNews true p)))) (idle e p)
 
 -- codes 5 and 6, a request for s comes off the link: the right has asked for s now, and put has news
-unfoldable pub hear : Status → Envelope → Process → Reaction
-hear s e p =
+unfoldable pub takeRequest : Status → Envelope → Process → Reaction
+takeRequest s e p =
     cond (for (p .link) s)
     (becomes Moved e (withLink (with (p .link) s false) (withAsked (with (p .asked) s true) (withNews true p))))
     (idle e p)
@@ -195,8 +196,8 @@ react code message e p =
     (cond (eqb code 2) (work e p)
     (cond (eqb code 3) (signal e p)
     (cond (eqb code 4) (receive e p)
-    (cond (eqb code 5) (hear full e p)
-    (cond (eqb code 6) (hear empty e p)
+    (cond (eqb code 5) (takeRequest full e p)
+    (cond (eqb code 6) (takeRequest empty e p)
     (cond (eqb code 7) (put e p)
     (idle e p))))))))
 

@@ -1,5 +1,5 @@
 -- Statuses, pairs of bits by status, and changes of single fields: the words in which the rules are written.
--- No rule stands here. Assumes nothing.
+-- No rule stands here.
 use Prim.Native.Nat.{ℕ}
 use mathlib.Core.Bool.{Bool, true, false, cond, _||_}
 use Rattle.machine.specs.declared.Pair.{Pair}

@@ -1,4 +1,4 @@
--- The fresh ring: document 01, "The image", its last sentence. Assumes nothing.
+-- The fresh ring: document 01, "The image", its last sentence.
 use Prim.Native.Nat.{ℕ}
 use mathlib.Core.Bool.{true}
 use lib.ListN.{set, replicate}

@@ -1,5 +1,5 @@
 -- The image: document 01, "The image", header and process record. An image is read as a state, the envelope and the
--- list of the processes, and a state is written as an image. Assumes nothing.
+-- list of the processes, and a state is written as an image.
 use Prim.Native.Nat.{ℕ, _+_, _*_}
 use mathlib.Core.List.{List, [], _∷_, _++_}
 use lib.ListN.{length, getD}

@@ -1,5 +1,5 @@
 -- Where a call is turned down: document 01's table, each row's condition exactly, its place, and the order of the
--- tests of one input. The order between a call's inputs stands in Answers. Assumes nothing.
+-- tests of one input. The order between a call's inputs stands in Answers.
 use Prim.Native.Nat.{ℕ, zero, suc, _+_, _-_, _*_, _/_, _%_}
 use mathlib.Core.Bool.{Bool, true, false, _&&_, _||_}
 use mathlib.Core.List.{List}

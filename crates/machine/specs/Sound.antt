@@ -1,5 +1,5 @@
 -- Soundness: document 01, "The image", its paragraph on ranges and zeros, in three parts: the bytes of the header, the
--- bytes of the records, and the rest. Byte 0 and the length are the table's (Refusals). Assumes nothing.
+-- bytes of the records, and the rest. Byte 0 and the length are the table's (Refusals).
 use Prim.Native.Nat.{ℕ, _+_, _*_}
 use mathlib.Core.Bool.{Bool, true, not, _&&_, _||_}
 use mathlib.Core.List.{List, [], _∷_}

@@ -1,6 +1,6 @@
 -- The stages 0 to 10 of a process, and each set of stages that a rule names: document 01, "The image" and "The eight
--- events". At 0 nothing is wished. A put goes from 1, where main has told its wish, to 2, where it waits, to 3, where main
--- may fill, to 4, where main has told that it did, to 5; a get likewise from 6 to 10. Assumes nothing.
+-- events". At 0 nothing is wished. A put goes from 1, where main has told its wish, to 2, where it waits, to 3, where
+-- main may fill, to 4, where main has told that it did, to 5; a get likewise from 6 to 10.
 use Prim.Native.Nat.{ℕ}
 use mathlib.Core.Bool.{Bool, cond, _&&_, _||_}
 use lib.Dec.{eqb, leb}

@@ -1,4 +1,4 @@
--- Stopped: document 01, "The eight events", its last paragraph. Assumes nothing.
+-- Stopped: document 01, "The eight events", its last paragraph.
 use Prim.Native.Nat.{ℕ, _≤_, _<_}
 use mathlib.Core.Path.{_≡_}
 use mathlib.Core.Bool.{Bool, true, false}

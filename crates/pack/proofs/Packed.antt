@@ -1,5 +1,5 @@
 -- A block written in four stores, number and count, events, zeros, and the check of all these, is the rule's block: the
--- stores lie apart, and the check is taken of what the rule covers. Assumes nothing.
+-- stores lie apart, and the check is taken of what the rule covers.
 use Prim.Native.Nat.{ℕ, _+_, _-_, _*_, _/_, _%_, _≤_, _<_}
 use mathlib.Core.Path.{_≡_, sym, ap, ap₂, _∙_}
 use mathlib.Core.Logic.{_⊎_, inl, inr}
@@ -9,9 +9,9 @@ use lib.ListN.{length, take, drop, replicate, length-drop, length-append}
 use lib.Seq.{take-all}
 use Rattle.machine.specs.Bytes.{part, bytes, splice}
 use Rattle.machine.specs.Tape.{check, covered, blockBytes, slotsFor, padded, blockFor}
-use Rattle.machine.proofs.Bytes.{lt-or-ge, length-bytes, length-splice, splice-next}
-use Rattle.span.proofs.Splices.{part-before, part-written, splice-apart}
-use Rattle.blocks.proofs.Lengths.{length-slots, slots-most, length-padded}
+use Rattle.machine.proofs.Laws.Bytes.{lt-or-ge, length-bytes, length-splice, splice-next}
+use Rattle.machine.proofs.Laws.Splices.{part-before, part-written, splice-apart}
+use Rattle.machine.proofs.Tapes.{length-slots, slots-most, length-padded}
 use Rattle.pack.specs.Pack.{widthIn}
 
 -- the events of a block, by their width

@@ -1,5 +1,4 @@
--- Blocks and stretches of events written one after the other: each starts where the one before it ends. Assumes
--- nothing.
+-- Blocks and stretches of events written one after the other: each starts where the one before it ends.
 use Prim.Native.Nat.{ℕ, _+_, _*_, _≤_, _<_}
 use mathlib.Core.Path.{_≡_, sym, ap, ap₂, _∙_}
 use mathlib.Core.List.{List, _++_}
@@ -9,10 +8,10 @@ use lib.Seq.{length-take-le}
 use Rattle.machine.specs.Bytes.{part, splice}
 use Rattle.machine.specs.Lists.{join, tabulate}
 use Rattle.machine.specs.Tape.{slotAt, blockFor}
-use Rattle.machine.proofs.Bytes.{splice-next}
-use Rattle.span.proofs.Laws.{splice-none}
-use Rattle.blocks.proofs.Joined.{join-more, length-joined}
-use Rattle.blocks.proofs.Lengths.{length-block}
+use Rattle.machine.proofs.Laws.Bytes.{splice-next}
+use Rattle.machine.proofs.Laws.Splices.{splice-none}
+use Rattle.machine.proofs.Laws.Joined.{join-more, length-joined}
+use Rattle.machine.proofs.Tapes.{length-block}
 use Rattle.pack.specs.Pack.{widthIn, takenFrom}
 
 -- before the first

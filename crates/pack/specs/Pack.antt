@@ -1,4 +1,4 @@
--- Which bytes of a list stand in which block: 504 in each but the last. Assumes nothing.
+-- Which bytes of a list stand in which block: 504 in each but the last.
 use Prim.Native.Nat.{ℕ, _-_, _*_, min}
 use mathlib.Core.List.{List}
 use Rattle.machine.specs.Bytes.{part}

@@ -1,7 +1,7 @@
 // Events packed into blocks of 63 slots, and taken out again. Document 01, "The tape".
-use record::byte::put_four;
-use record::byte::put_number;
-use seal::check_of;
+use checksum::check_of;
+use little_endian::put_four;
+use little_endian::put_number;
 use span::clear;
 use span::copy;
 ghost use mathlib.Core.Path.{_≡_};

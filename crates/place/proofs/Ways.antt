@@ -1,6 +1,6 @@
 -- Each way through an event on an image: one that isn't possible is idle and leaves the image as it is; any other is
 -- the rule's reaction at its process, placed. What lower functions answered is a variable here, with the value that it
--- is known to be. Assumes nothing.
+-- is known to be.
 use Prim.Native.Nat.{ℕ, _%_, _≤_, _<_}
 use mathlib.Core.Path.{_≡_, refl, sym, ap, _∙_}
 use mathlib.Core.Bool.{Bool, true, false, not}
@@ -16,13 +16,13 @@ use Rattle.machine.specs.Ring.{recordAt}
 use Rattle.machine.specs.Image.{sizeIn, stateIn, imageWith}
 use Rattle.machine.specs.Events as rule
 use Rattle.machine.specs.Stopped.{isIdle}
-use Rattle.machine.proofs.Rewrite.{rewrite-image}
-use Rattle.machine.proofs.Refusals.{image-fine}
-use Rattle.machine.proofs.Sound.{sound-facts}
-use Rattle.machine.proofs.Stored.{read-at, read-envelope-at}
+use Rattle.machine.proofs.Image.Rewrite.{rewrite-image}
+use Rattle.machine.proofs.Laws.Refusals.{image-fine}
+use Rattle.machine.proofs.Soundness.Sound.{sound-facts}
+use Rattle.machine.proofs.Image.Stored.{read-at, read-envelope-at}
 use Rattle.machine.proofs.Idle.{idle-keeps}
 use Rattle.machine.proofs.Stopped.{idle-is}
-use Rattle.machine.proofs.Sums.{marked-small, marked-counted}
+use Rattle.machine.proofs.Soundness.Sums.{marked-small, marked-counted}
 use Rattle.record.specs.declared.process.Record.{Record}
 use Rattle.record.specs.declared.header.Header.{Header}
 use Rattle.record.specs.Words.{stageOf, shownProcess, shownEnvelope, Tidy}

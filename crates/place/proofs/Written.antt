@@ -1,5 +1,5 @@
 -- A reaction written into a sound image: own record, header, then the neighbour that it reaches, one after the other,
--- are the rule's one. A neighbour is another process, so what is read of it is what stood there. Assumes nothing.
+-- are the rule's one. A neighbour is another process, so what is read of it is what stood there.
 use Prim.Native.Nat.{ℕ, _+_, _*_, _%_, _≤_, _<_}
 use mathlib.Core.Path.{_≡_, sym, ap, subst, _∙_}
 use mathlib.Core.Bool.{true, false}
@@ -15,13 +15,13 @@ use Rattle.machine.specs.Ring.{left, right, recordAt}
 use Rattle.machine.specs.Fields.{blank}
 use Rattle.machine.specs.Image.{State, pairOf, sizeIn, stateIn, imageWith, withEnvelope}
 use Rattle.machine.specs.Events.{requested, arrived, processAt, change, place}
-use Rattle.machine.proofs.Image.{replaced, enveloped, write-process, write-envelope, size-written}
-use Rattle.machine.proofs.Rewrite.{read-in-range}
-use Rattle.machine.proofs.Sound.{sound-facts}
-use Rattle.machine.proofs.Refusals.{image-fine}
-use Rattle.machine.proofs.Ring.{left-below, right-below, left-other, right-other}
-use Rattle.machine.proofs.Stored.{length-state, store-process, read-at}
-use Rattle.machine.proofs.Around.{no-request, no-arrival}
+use Rattle.machine.proofs.Image.Writes.{replaced, enveloped, write-process, write-envelope, size-written}
+use Rattle.machine.proofs.Image.Rewrite.{read-in-range}
+use Rattle.machine.proofs.Soundness.Sound.{sound-facts}
+use Rattle.machine.proofs.Laws.Refusals.{image-fine}
+use Rattle.machine.proofs.Laws.Ring.{left-below, right-below, left-other, right-other}
+use Rattle.machine.proofs.Image.Stored.{length-state, store-process, read-at}
+use Rattle.machine.proofs.Soundness.Around.{no-request, no-arrival}
 use Rattle.machine.proofs.Idle.{unchanged}
 use Rattle.record.specs.Words.{shownProcess, shownEnvelope, Tidy}
 use Rattle.record.proofs.Images.{Read, record-read, record-written, header-written}

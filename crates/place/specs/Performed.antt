@@ -1,5 +1,4 @@
--- What must be known before a reaction is written and before an event is performed, and what is then so. Assumes
--- nothing.
+-- What must be known before a reaction is written and before an event is performed, and what is then so.
 use Prim.Native.Nat.{ℕ, _%_, _^_, _<_}
 use mathlib.Core.Path.{_≡_}
 use mathlib.Core.Bool.{cond}

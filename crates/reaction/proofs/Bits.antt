@@ -1,5 +1,5 @@
 -- Bytes that a put changes, a record's bytes 1 and 2 and a header's markers: which bits they then have, computed at
--- every value of the byte. Assumes nothing.
+-- every value of the byte.
 use Prim.Native.Nat.{ℕ, zero, suc, _-_, _*_, _/_, _%_, _^_, _<_}
 use mathlib.Core.Path.{_≡_, refl, ap, _∙_}
 use mathlib.Core.Bool.{true, false, not, cond, _&&_, _||_}
@@ -11,7 +11,7 @@ use Rattle.machine.specs.Bytes.{bitOf}
 use Rattle.machine.specs.Lists.{every}
 use Rattle.machine.specs.Fields.{Status, full, empty, none, for, with, either, processOf}
 use Rattle.machine.specs.Image.{pairOf, processFrom}
-use Rattle.machine.proofs.Lists.{every-at, alike, agree, and-first, and-second}
+use Rattle.machine.proofs.Laws.Lists.{every-at, alike, agree, and-first, and-second}
 use Rattle.record.proofs.Pairs.{samePair, pair-test, Pairs, at, same, by-test}
 use Rattle.reaction.specs.Reaction.{pairFor}
 

@@ -1,5 +1,5 @@
 -- Forward, on words: what the right has asked for sets its markers; then the envelope leaves, and have and all asked
--- bits go off, or it stays. Assumes nothing.
+-- bits go off, or it stays.
 use Prim.Native.Nat.{ℕ, _*_, _%_, _≤_, _<_}
 use mathlib.Core.Path.{_≡_, refl, sym, ap, _∙_}
 use mathlib.Core.Bool.{Bool, true, false}
@@ -20,9 +20,10 @@ use Rattle.reaction.specs.Reaction.{asksIn, shown, Begun, Makes}
 use Rattle.reaction.proofs.Bits.{heeded, gone-along}
 use Rattle.reaction.proofs.Made.{turned, seen}
 
-module _ (r : Reaction) (begun : Begun r) {asked : ℕ} (asked-is : asked ≡ askedOf (r .own .word)) {heeding : Header}
-    (word : heeding .word ≡ bitOr (r .header .word) (asked * 65536))
-    (message : heeding .message ≡ r .header .message) where
+module _ (r : Reaction) (begun : Begun r) {asked : ℕ} (asked-is : asked ≡ askedOf (r .own .word))
+    {with-markers : Header}
+    (word : with-markers .word ≡ bitOr (r .header .word) (asked * 65536))
+    (message : with-markers .message ≡ r .header .message) where
   -- its word, the header's, and the markers with what the right has asked for
   abbrev w : ℕ
   w = r .own .word
@@ -33,20 +34,20 @@ module _ (r : Reaction) (begun : Begun r) {asked : ℕ} (asked-is : asked ≡ as
   abbrev markers : ℕ
   markers = bitOr (requestsOf (r .header .word)) (requestsOf (r .own .word) % 4)
 
-  heeding-fields : Fields (heeding .word) (stageOf h) (flagsOf h) markers (spareOf h) (noteOf h)
-  heeding-fields =
+  markers-fields : Fields (with-markers .word) (stageOf h) (flagsOf h) markers (spareOf h) (noteOf h)
+  markers-fields =
       rw (word, asked-is ∙ asked-in w) (set-in-2 h (requestsOf w % 4) (omega arith))
 
-  pub heeding-tidy : TidyHeader heeding
-  heeding-tidy =
+  pub markers-tidy : TidyHeader with-markers
+  markers-tidy =
       let tidy = begun .fits .header in
       let two : markers < 4 = or-lt 2 (requestsOf h) (requestsOf w % 4) (omega (arith, tidy .markers)) (omega arith) in
-      is-tidy-header heeding-fields (tidy .status) (omega arith) (tidy .counts) (rw message (tidy .message))
+      is-tidy-header markers-fields (tidy .status) (omega arith) (tidy .counts) (rw message (tidy .message))
 
-  heeding-shows : shownEnvelope heeding ≡ rule.heeding (shown r) .envelope
-  unfolding rule.heeding
-  heeding-shows =
-      shows-envelope heeding-fields
+  markers-shows : shownEnvelope with-markers ≡ rule.setMarkers (shown r) .envelope
+  unfolding rule.setMarkers
+  markers-shows =
+      shows-envelope markers-fields
       ∙ (λ i. record {
         full = eqb (flagsOf h) 1;
         marker = heeded (requestsOf h) (requestsOf w) (omega arith) i;
@@ -54,14 +55,14 @@ module _ (r : Reaction) (begun : Begun r) {asked : ℕ} (asked-is : asked ≡ as
         message = message i;
       })
 
-  module _ {wanted : Bool} (test : wanted ≡ rule.wanted (shownEnvelope heeding)) where
+  module _ {wanted : Bool} (test : wanted ≡ rule.wanted (shownEnvelope with-markers)) where
     -- as the rule tests it
-    tested : rule.wanted (rule.heeding (shown r) .envelope) ≡ wanted
-    tested = ap rule.wanted (sym heeding-shows) ∙ sym test
+    tested : rule.wanted (rule.setMarkers (shown r) .envelope) ≡ wanted
+    tested = ap rule.wanted (sym markers-shows) ∙ sym test
 
     pub forward-leaves : wanted ≡ true → {own : Record} → own .word ≡ bitAnd w 18446744073708568319
-        → Makes rule.forward r (turned r own heeding Right (r .outcome))
-    unfolding rule.forward rule.heeding rule.leave
+        → Makes rule.forward r (turned r own with-markers Right (r .outcome))
+    unfolding rule.forward rule.setMarkers rule.leave
     forward-leaves is {own} off =
         let fits = begun .fits in
         let f : Fields (own .word) (stageOf w) (bitAnd (flagsOf w) 254) (bitAnd (requestsOf w) 240) (spareOf w)
@@ -79,23 +80,23 @@ module _ (r : Reaction) (begun : Begun r) {asked : ℕ} (asked-is : asked ≡ as
               rw (tested ∙ is)
               (λ i. record {
                 process = made i;
-                envelope = heeding-shows i;
+                envelope = markers-shows i;
                 asks = pairOf (asksIn (sym (begun .here) i)) 0;
                 leaves = true;
                 outcome = r .outcome;
               });
-          fits = record { own = tidy; header = heeding-tidy; asks = omega arith };
-          size = heeding-fields .stage-is;
+          fits = record { own = tidy; header = markers-tidy; asks = omega arith };
+          size = markers-fields .stage-is;
           started = refl;
         }
 
     pub forward-stays : wanted ≡ false
-        → Makes rule.forward r (turned r (r .own) heeding (r .reach) (r .outcome))
-    unfolding rule.forward rule.heeding
+        → Makes rule.forward r (turned r (r .own) with-markers (r .reach) (r .outcome))
+    unfolding rule.forward rule.setMarkers
     forward-stays is =
         record {
-          shows = rw (tested ∙ is) (ap (seen (r .reach) (r .outcome) (shownProcess w)) heeding-shows);
-          fits = record { own = begun .fits .own; header = heeding-tidy; asks = begun .fits .asks };
-          size = heeding-fields .stage-is;
+          shows = rw (tested ∙ is) (ap (seen (r .reach) (r .outcome) (shownProcess w)) markers-shows);
+          fits = record { own = begun .fits .own; header = markers-tidy; asks = begun .fits .asks };
+          size = markers-fields .stage-is;
           started = refl;
         }

@@ -1,4 +1,4 @@
--- What the rule makes of a reaction, part after part; and what a reaction shows, by its words' fields. Assumes nothing.
+-- What the rule makes of a reaction, part after part; and what a reaction shows, by its words' fields.
 use Prim.Native.Nat.{ℕ, _+_, _*_, _/_, _<_}
 use mathlib.Core.Path.{_≡_, refl, ap, _∙_}
 use Rattle.machine.specs.declared.Envelope.{Envelope}

@@ -1,5 +1,4 @@
 -- A put marks and clears, on words: a mark's bit, one in its count, and a marker's bit. Each law is for either status.
--- Assumes nothing.
 use Prim.Native.Nat.{ℕ, suc, pred, _+_, _-_, _*_, _/_, _%_, _≤_, _<_}
 use mathlib.Core.Path.{_≡_, refl, sym, ap, ap₂, _∙_, subst}
 use mathlib.Core.Bool.{Bool, true, false, not, cond}

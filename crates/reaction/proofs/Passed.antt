@@ -1,5 +1,5 @@
 -- A put without the envelope: what it wishes and what the right has asked for is asked for, and what of it wasn't goes
--- left, as the rule asks and passes one status after the other. Assumes nothing.
+-- left, as the rule asks and passes one status after the other.
 use Prim.Native.Nat.{ℕ, zero, suc, _-_, _*_, _/_, _%_, _<_}
 use mathlib.Core.Path.{_≡_, refl, sym, ap, _∙_}
 use mathlib.Core.Bool.{Bool, true, false}

@@ -1,5 +1,5 @@
 -- The put's decision by stage: each arm of it is that arm of the rule, and the stages that no arm names do no more. The
--- answers of the parts are variables here. Assumes nothing.
+-- answers of the parts are variables here.
 use Prim.Native.Nat.{ℕ, zero, suc, _+_, _*_, _/_, _%_, _≤_, _<_}
 use mathlib.Core.Path.{_≡_, refl, sym, ap, _∙_}
 use mathlib.Core.Bool.{Bool, true, false, Bool·beq}
@@ -38,13 +38,13 @@ module _ (r : Reaction) {have : Bool} (read : have ≡ haveOf (r .own .word)) wh
   here : {b : Bool} → have ≡ b → shown r .process .have ≡ b
   here is = sym (read ∙ have-is (r .own .word)) ∙ is
 
-  pub stroll-have : {t : Reaction} → have ≡ true → Makes rule.forward r t → Makes rule.stroll r t
-  unfolding rule.stroll
-  stroll-have is made = likewise made (rw (here is))
+  pub relay-have : {t : Reaction} → have ≡ true → Makes rule.forward r t → Makes rule.relay r t
+  unfolding rule.relay
+  relay-have is made = likewise made (rw (here is))
 
-  pub stroll-without : {t : Reaction} → have ≡ false → Makes (λ x. rule.pass (asking 0 x)) r t → Makes rule.stroll r t
-  unfolding rule.stroll asking
-  stroll-without is made = likewise made (rw (here is))
+  pub relay-without : {t : Reaction} → have ≡ false → Makes (λ x. rule.pass (asking 0 x)) r t → Makes rule.relay r t
+  unfolding rule.relay asking
+  relay-without is made = likewise made (rw (here is))
 
   module _ (s : Status) where
     -- the stage that comes after it
@@ -97,17 +97,17 @@ module _ (r : Reaction) (fits : Fits r) where
 -- ---- by the stage
 
 -- the first two stages
-low : (stage : ℕ) (x : Ruled) → stage < 2 → rule.stroll x ≡ rule.putAt stage x
+low : (stage : ℕ) (x : Ruled) → stage < 2 → rule.relay x ≡ rule.putAt stage x
 unfolding rule.putAt
 low zero x h = refl
 low (suc zero) x h = refl
 low (suc (suc n)) x h = absurd (omega arith)
 
 module _ (r : Reaction) {found stage : ℕ} (read : found ≡ stage) where
-  pub at-low : {t : Reaction} → found < 2 → Makes rule.stroll r t → Makes (rule.putAt stage) r t
+  pub at-low : {t : Reaction} → found < 2 → Makes rule.relay r t → Makes (rule.putAt stage) r t
   at-low h made = likewise made (low stage (shown r) (omega arith))
 
-  pub at-six : {t : Reaction} → found ≡ 6 → Makes rule.stroll r t → Makes (rule.putAt stage) r t
+  pub at-six : {t : Reaction} → found ≡ 6 → Makes rule.relay r t → Makes (rule.putAt stage) r t
   unfolding rule.putAt
   at-six is made = likewise made (rw (sym read ∙ is))
 

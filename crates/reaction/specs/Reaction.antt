@@ -1,5 +1,4 @@
 -- What an event does, in words, as the rule's reaction; and what each part of it must know and does by the rule.
--- Assumes nothing.
 use Prim.Native.Nat.{ℕ, _%_, _≤_, _<_}
 use mathlib.Core.Path.{_≡_}
 use mathlib.Core.Bool.{Bool, true, false, cond}

@@ -74,26 +74,26 @@ fn forward(r: Reaction) -> Reaction
 {
     let own = r.own;
     let header = r.header;
-    let heeding = header.with_markers(own.asked());
-    if heeding.is_wanted() {
+    let with_markers = header.with_markers(own.asked());
+    if with_markers.is_wanted() {
         let outcome = r.outcome;
         return Reaction {
             own: own.without(TAKEN_ALONG),
-            header: heeding,
+            header: with_markers,
             reach: Reach::Right,
             started: r.started,
             outcome: outcome,
         };
     }
     let mut t = r;
-    t.header = heeding;
+    t.header = with_markers;
     t
 }
 
 // Stages 0, 1 and 6.
-fn stroll(r: Reaction) -> Reaction
+fn relay(r: Reaction) -> Reaction
     requires { ⌜ Begun r ⌝ }
-    ensures { λ t. ⌜ Makes rule.stroll r t ⌝ }
+    ensures { λ t. ⌜ Makes rule.relay r t ⌝ }
 {
     let own = r.own;
     if own.has_envelope() {
@@ -158,7 +158,7 @@ pub fn put_at(r: Reaction) -> Reaction
 {
     let stage = r.own.stage();
     match stage {
-        0 | 1 | 6 => stroll(r),
+        0 | 1 | 6 => relay(r),
         2 | 7 => wait(stage == 7, r),
         5 => end_put(forward(clear(false, r))),
         10 => ends(Outcome::Got, forward(clear(true, r))),

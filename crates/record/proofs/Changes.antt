@@ -1,4 +1,4 @@
--- A word whose bits are tested, or turned off and then added to. Assumes nothing.
+-- A word whose bits are tested, or turned off and then added to.
 use Prim.Native.Nat.{ℕ, zero, suc, _+_, _-_, _*_, _/_, _%_, _^_, _≤_, _<_}
 use mathlib.Core.Path.{_≡_, sym, ap, _∙_}
 use mathlib.Core.Bool.{not}

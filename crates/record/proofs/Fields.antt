@@ -1,5 +1,5 @@
 -- A record's word, field by field: bits set or off act on each field by itself, and the fields say which record the
--- word shows. Assumes nothing.
+-- word shows.
 use Prim.Native.Nat.{ℕ, _+_, _-_, _*_, _/_, _%_, _^_, _≤_, _<_}
 use mathlib.Core.Path.{_≡_, refl, sym, ap, _∙_}
 use native.Mathlib.Omega.{arith}

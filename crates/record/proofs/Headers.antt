@@ -1,5 +1,5 @@
 -- The header's words, field by field, and when its status is wanted, as one mask tests it. The fields of its first word
--- stand as a record's do: N, the status, the markers, and the two counts. Assumes nothing.
+-- stand as a record's do: N, the status, the markers, and the two counts.
 use Prim.Native.Nat.{ℕ, zero, suc, _+_, _-_, _*_, _/_, _%_, _^_, _≤_, _<_}
 use mathlib.Core.Path.{_≡_, refl, sym, ap, _∙_}
 use mathlib.Core.Bool.{Bool, true, false, not, cond, _||_}
@@ -14,7 +14,7 @@ use Rattle.machine.specs.Lists.{every}
 use Rattle.machine.specs.Fields.{count}
 use Rattle.machine.specs.Image.{pairOf}
 use Rattle.machine.specs.Events.{positive, wanted}
-use Rattle.machine.proofs.Lists.{agree}
+use Rattle.machine.proofs.Laws.Lists.{agree}
 use Rattle.record.specs.declared.header.Header.{Header}
 use Rattle.record.specs.Words.{stageOf, flagsOf, requestsOf, spareOf, noteOf, fullOf, shownEnvelope, countedAs}
 use Rattle.record.specs.Words.{TidyHeader}

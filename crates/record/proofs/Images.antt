@@ -1,5 +1,5 @@
 -- Words and images: the word that stands in an image shows the process, and the header's words the envelope, that the
--- rule reads there; and a word in order, written, is the process that it shows, written. Assumes nothing.
+-- rule reads there; and a word in order, written, is the process that it shows, written.
 use Prim.Native.Nat.{ℕ, _+_, _/_, _%_, _^_, _≤_, _<_}
 use mathlib.Core.Path.{_≡_, refl, sym, ap, subst, _∙_}
 use mathlib.Core.Bool.{true}
@@ -18,18 +18,18 @@ use Rattle.machine.specs.Image.{State, flagBits, requestBits, envelopeIn, proce
 use Rattle.machine.specs.Image.{headerBytes, imageWith, sizeIn, stateIn, withProcess, withEnvelope}
 use Rattle.machine.specs.Events.{processAt}
 use Rattle.machine.specs.Refusals.{imageVerdict}
-use Rattle.machine.proofs.Bytes.{littleEndian-bytes-4, number-more, number-4, number-8, zeros-number, number-lt}
-use Rattle.machine.proofs.Bits.{is-bit, pair-le, flags-le, process-is, flags-are, requests-are, markers-are}
-use Rattle.machine.proofs.Image.{length-process}
-use Rattle.machine.proofs.Readback.{following, record-stands}
-use Rattle.machine.proofs.Rewrite.{rewrite-image, read-in-range}
-use Rattle.machine.proofs.Stored.{length-state, read-at}
-use Rattle.machine.proofs.Sound.{sound-facts}
-use Rattle.machine.proofs.Refusals.{image-fine}
+use Rattle.machine.proofs.Laws.Bytes.{littleEndian-bytes-4, number-more, number-4, number-8, zeros-number, number-lt}
+use Rattle.machine.proofs.Laws.Bits.{is-bit, pair-le, flags-le, process-is, flags-are, requests-are, markers-are}
+use Rattle.machine.proofs.Image.Writes.{length-process}
+use Rattle.machine.proofs.Image.Readback.{following, record-stands}
+use Rattle.machine.proofs.Image.Rewrite.{rewrite-image, read-in-range}
+use Rattle.machine.proofs.Image.Stored.{length-state, read-at}
+use Rattle.machine.proofs.Soundness.Sound.{sound-facts}
+use Rattle.machine.proofs.Laws.Refusals.{image-fine}
 use Rattle.record.specs.declared.header.Header.{Header}
 use Rattle.record.specs.Words.{stageOf, flagsOf, requestsOf, noteOf, shownProcess, shownEnvelope, Tidy}
 use Rattle.record.specs.Words.{TidyHeader}
-use Rattle.record.proofs.Laws.{bytes-apart, word-halves}
+use Rattle.little_endian.proofs.Laws.{bytes-apart, word-halves}
 use Rattle.record.proofs.Fields.{Fields, wordOf, made-of, shows, is-tidy}
 
 -- ---- a record read

@@ -1,5 +1,4 @@
 -- Laws that the functions of this crate, and those above it, cite.
-pub mod Laws
 pub mod Fields
 pub mod Headers
 pub mod Changes

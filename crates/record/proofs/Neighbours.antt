@@ -1,5 +1,4 @@
--- A neighbour's word with requests on its link, or with the envelope arriving, shows the rule's record of it. Assumes
--- nothing.
+-- A neighbour's word with requests on its link, or with the envelope arriving, shows the rule's record of it.
 use Prim.Native.Nat.{ℕ, _*_, _<_}
 use mathlib.Core.Path.{_≡_, refl, _∙_}
 use mathlib.Core.Bool.{true, _||_}
@@ -11,7 +10,7 @@ use Rattle.machine.specs.Lists.{every}
 use Rattle.machine.specs.Fields.{either}
 use Rattle.machine.specs.Image.{pairOf}
 use Rattle.machine.specs.Events.{requested, arrived}
-use Rattle.machine.proofs.Lists.{every-at, alike}
+use Rattle.machine.proofs.Laws.Lists.{every-at, alike}
 use Rattle.record.specs.Words.{stageOf, flagsOf, requestsOf, noteOf, shownProcess, Tidy}
 use Rattle.record.proofs.Fields.{set-in, set-in-2, shows, is-tidy}
 use Rattle.record.proofs.Images.{Read}

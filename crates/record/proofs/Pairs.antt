@@ -1,5 +1,4 @@
--- Byte 2 of a record as four pairs of bits: what a change of the byte makes of them is computed at every value. Assumes
--- nothing.
+-- Byte 2 of a record as four pairs of bits: what a change of the byte makes of them is computed at every value.
 use Prim.Native.Nat.{ℕ, _<_}
 use mathlib.Core.Path.{_≡_}
 use mathlib.Core.Bool.{Bool, true, false, _&&_, Bool·beq}
@@ -10,8 +9,8 @@ use Rattle.machine.specs.Bytes.{bitOf}
 use Rattle.machine.specs.Lists.{every}
 use Rattle.machine.specs.Fields.{processOf}
 use Rattle.machine.specs.Image.{pairOf, processFrom, requestBits}
-use Rattle.machine.proofs.Lists.{every-at, agree, and-first, and-second, same-bool}
-use Rattle.machine.proofs.Bits.{process-is}
+use Rattle.machine.proofs.Laws.Lists.{every-at, agree, and-first, and-second, same-bool}
+use Rattle.machine.proofs.Laws.Bits.{process-is}
 
 -- whether two pairs are the same
 abbrev pub samePair : Pair → Pair → Bool

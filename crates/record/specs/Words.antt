@@ -1,5 +1,5 @@
 -- Which process record a word of eight bytes shows, and which envelope a header's two words show: the rules read the
--- same off an image's bytes (machine/specs/Image). Assumes nothing.
+-- same off an image's bytes (machine/specs/Image).
 use Prim.Native.Nat.{ℕ, _+_, _*_, _/_, _%_, _^_, _≤_, _<_}
 use mathlib.Core.Path.{_≡_}
 use mathlib.Core.Bool.{Bool}

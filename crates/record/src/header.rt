@@ -1,8 +1,8 @@
 // The header as two numbers of eight bytes, by value. In the first, byte 0 is N, byte 1 the status, byte 2 the markers,
 // bytes 3 and 4 the counts of the processes marked for full and for empty; the second is the message. Two bits that
 // stand for full and empty are a number, 0 to 3, with full as its lower bit. Document 01, "The image".
-use super::byte::eight_at;
-use super::byte::put_word;
+use little_endian::eight_at;
+use little_endian::put_word;
 ghost use mathlib.Core.Path.{_≡_};
 ghost use Prim.Native.Nat.{_+_, _-_, _*_, _/_, _%_, _^_, _≤_, _<_};
 ghost use mathlib.Core.List.{_++_};

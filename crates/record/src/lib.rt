@@ -1,6 +1,5 @@
-// A ring's records and header as words by value, read from bytes that a caller lends and written there, with the
-// numbers that they are made of. Document 01, "The image".
+// A ring's records and header as words by value, read from bytes that a caller lends and written there. Document 01,
+// "The image".
 
-pub mod byte; // byte.rt: bytes, bits and wider numbers
 pub mod process; // process.rt: a process record
 pub mod header; // header.rt: the header

@@ -1,8 +1,8 @@
 // A process record as one number of eight bytes, by value: byte 0 is the stage, byte 1 the flags, byte 2 the requests
 // and the marks, bytes 4 to 7 the note. Two bits that stand for full and empty are handed out as a number, 0 to 3, with
 // full as its lower bit. Document 01, "The image".
-use super::byte::eight_at;
-use super::byte::put_word;
+use little_endian::eight_at;
+use little_endian::put_word;
 ghost use mathlib.Core.Path.{_≡_};
 ghost use Prim.Native.Nat.{_+_, _-_, _*_, _/_, _≤_, _<_};
 ghost use lib.ListN.{length};

@@ -1,5 +1,4 @@
 -- What an answer tells, taken apart: by its number it is done or refused, and its values are then those of the rule.
--- Assumes nothing.
 use Prim.Native.Nat.{ℕ}
 use mathlib.Core.Path.{_≡_, refl, sym, ap, _∙_}
 use mathlib.Core.Bool.{Bool}
@@ -15,8 +14,8 @@ use Rattle.machine.specs.Bytes.{bit}
 use Rattle.machine.specs.Run.{countValues}
 use Rattle.machine.specs.Answers.{Answer, answer}
 use Rattle.machine.specs.Report.{refusalLine, textBy}
-use Rattle.machine.proofs.Bits.{bit-is}
-use Rattle.machine.proofs.Refusals.{number-range}
+use Rattle.machine.proofs.Laws.Bits.{bit-is}
+use Rattle.machine.proofs.Laws.Refusals.{number-range}
 
 -- the number, and a value, of equal answers
 number-same : {a b : Answer} → a ≡ b → a .number ≡ b .number

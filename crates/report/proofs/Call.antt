@@ -1,4 +1,4 @@
--- The report call: the text on the page is written over the output's start if it fits. Assumes nothing.
+-- The report call: the text on the page is written over the output's start if it fits.
 use Prim.Native.Nat.{ℕ, _≤_, _<_}
 use mathlib.Core.Path.{_≡_, refl, sym, ap, _∙_}
 use mathlib.Core.List.{List, [], _∷_}
@@ -13,12 +13,12 @@ use Rattle.machine.specs.Bytes.{part, splice}
 use Rattle.machine.specs.Refusals.{outputVerdict}
 use Rattle.machine.specs.Answers.{Answer, answer}
 use Rattle.machine.specs.Report.{reportText, reportAnswer, reportOutput}
-use Rattle.machine.proofs.Refusals.{unless-fine}
-use Rattle.span.proofs.Splices.{part-written}
+use Rattle.machine.proofs.Laws.Refusals.{unless-fine}
+use Rattle.machine.proofs.Laws.Splices.{part-written}
 use Rattle.text.specs.Piece.{Piece}
 use Rattle.report.specs.declared.ReportAnswer.{ReportAnswer}
 use Rattle.report.specs.declared.ReportAnswer.the-variants as report-answer
-use Rattle.report.specs.Report.{told}
+use Rattle.report.specs.Report.{inNumbers}
 use Rattle.report.proofs.Apart.{value-same, done-fine}
 
 module _ (input output page written : List ℕ) {end : ℕ} (put : Piece page 0 (reportText input) written end) where
@@ -49,15 +49,16 @@ module _ (input output page written : List ℕ) {end : ℕ} (put : Piece page 0 
       (rw (under, long), (copied ∙ rw (read, under), λ room. refl))
 
 -- what a call that is done has written lies within the output
-pub done-within : (input output : List ℕ) (a : ReportAnswer) → told a ≡ reportAnswer input output → {end : ℕ}
+pub done-within : (input output : List ℕ) (a : ReportAnswer) → inNumbers a ≡ reportAnswer input output → {end : ℕ}
     → a ≡ report-answer.Done end
     → end ≤ length output
 unfolding reportAnswer outputVerdict
 done-within input output a says {end} is =
     let text = reportText input in
-    let tells = sym (ap told is) ∙ says in
+    let tells = sym (ap inNumbers is) ∙ says in
     let verdict = outputVerdict (length text) output in
     let fine = done-fine verdict (length text ∷ []) tells in
     let filled = value-same 0 (tells ∙ ap (λ (v : Verdict). answer v (length text ∷ [])) fine) in
-    let fits = leb-true (length text) (length output) (unless-fine (leb (length text) (length output)) refusal.Output fine) in
+    let fits =
+    leb-true (length text) (length output) (unless-fine (leb (length text) (length output)) refusal.Output fine) in
     omega arith

@@ -1,6 +1,6 @@
--- A tape of at most 64 blocks, performed from an accepted image: what is refused is the tape alone, since the ledger has
--- room for a record an event; and what is written is the rules' text, since the ledger has the rules' records at its
--- start and the image after the run stands for the rules' own state. Assumes nothing.
+-- A tape of at most 64 blocks, performed from an accepted image: what is refused is the tape alone, since the ledger
+-- has room for a record an event; and what is written is the rules' text, since the ledger has the rules' records at
+-- its start and the image after the run stands for the rules' own state.
 use Prim.Native.Nat.{ℕ, _+_, _*_, _≤_, _<_}
 use mathlib.Core.Path.{_≡_, refl, sym, ap, ap₂, _∙_}
 use mathlib.Core.Bool.{Bool}
@@ -17,13 +17,14 @@ use Rattle.machine.specs.Image.{sizeIn, stateIn, imageWith}
 use Rattle.machine.specs.Stopped as rule
 use Rattle.machine.specs.Run.{noCounts, countsFrom, countValues, ledgerFrom, after}
 use Rattle.machine.specs.Refusals.{orElse, codes, imageVerdict, tapeVerdict, outputVerdict}
-use Rattle.machine.specs.Answers.{answer, runEvents, runRecords, runVerdict, runAnswer, runImage, runLedger, stoppedAnswer}
+use Rattle.machine.specs.Answers.{answer, runEvents, runRecords, runVerdict, runAnswer, runImage, runLedger}
+use Rattle.machine.specs.Answers.{stoppedAnswer}
 use Rattle.machine.specs.Report.{recordLine, recordLines, countsLine, lastLine, refusalLine, ranText, textBy}
 use Rattle.machine.proofs.Runs.{events-continue}
-use Rattle.blocks.proofs.Joined.{joined-same}
+use Rattle.machine.proofs.Laws.Joined.{joined-same}
 use Rattle.tape.proofs.Events.{length-events, events-in-blocks, events-fit}
-use Rattle.measure.proofs.Room.{records-few, twelve}
-use Rattle.span.proofs.Splices.{part-front}
+use Rattle.machine.proofs.Tallies.{records-few, length-records}
+use Rattle.machine.proofs.Laws.Splices.{part-front}
 use Rattle.run.specs.declared.RunAnswer.{RunAnswer}
 use Rattle.run.specs.declared.RunAnswer.the-variants as run-answer
 use Rattle.run.specs.Run as run
@@ -57,7 +58,8 @@ module _ (records ledger : List ℕ) where
         number-at-start (12 * k + 8) (omega arith),
       )
 
-  pub lines-at-start : (k : ℕ) → 12 * k ≤ length records → recordLines (splice ledger 0 records) k ≡ recordLines records k
+  pub lines-at-start : (k : ℕ) → 12 * k ≤ length records
+      → recordLines (splice ledger 0 records) k ≡ recordLines records k
   unfolding recordLines
   lines-at-start k h =
       joined-same (recordLine (splice ledger 0 records)) (recordLine records) 0 k
@@ -93,10 +95,11 @@ module _ (s tape ledger : List ℕ) (fine : imageVerdict s ≡ Fine) (few : leng
       go Fine e = enough (records-most e)
         where
           enough : counts .records ≤ 4032 → outputVerdict (length (runRecords s tape)) ledger ≡ Fine
-          enough most = rw (le-leb (length (runRecords s tape)) (length ledger) (omega (arith, twelve s tape, room)))
+          enough most =
+              rw (le-leb (length (runRecords s tape)) (length ledger) (omega (arith, length-records s tape, room)))
 
-  module _ (a : RunAnswer) (says : run.told a ≡ runAnswer s tape ledger) where
-    told-as : run.told a ≡ answer tested (countValues counts)
+  module _ (a : RunAnswer) (says : run.inNumbers a ≡ runAnswer s tape ledger) where
+    told-as : run.inNumbers a ≡ answer tested (countValues counts)
     unfolding runAnswer
     told-as = says ∙ ap (λ (v : Verdict). answer v (countValues counts)) tape-decides
 
@@ -105,16 +108,16 @@ module _ (s tape ledger : List ℕ) (fine : imageVerdict s ≡ Fine) (few : leng
         → refusalLine r ≡ textBy tested (ranText (stateIn s) (runEvents tape))
     run-refused {r = r} is found =
         refused-line tested (countValues counts) (ranText (stateIn s) (runEvents tape)) r
-        (rw (found ∙ ap run.refusalOf is) (sym (ap run.told is) ∙ told-as))
+        (rw (found ∙ ap run.refusalOf is) (sym (ap run.inNumbers is) ∙ told-as))
 
     module _ {c : Counts} (is : a ≡ run-answer.Done c) where
       accepted : tested ≡ Fine
-      accepted = done-fine tested (countValues counts) (sym (ap run.told is) ∙ told-as)
+      accepted = done-fine tested (countValues counts) (sym (ap run.inNumbers is) ∙ told-as)
 
       same : c ≡ counts
       same =
           same-counts c counts
-          (sym (ap run.told is) ∙ told-as ∙ ap (λ (v : Verdict). answer v (countValues counts)) accepted)
+          (sym (ap run.inNumbers is) ∙ told-as ∙ ap (λ (v : Verdict). answer v (countValues counts)) accepted)
 
       -- so many lines are written at most
       pub records-few-told : c .records ≤ 4032
@@ -127,7 +130,7 @@ module _ (s tape ledger : List ℕ) (fine : imageVerdict s ≡ Fine) (few : leng
       entries left =
           let records = runRecords s tape in
           ap₂ recordLines (left ∙ rw (tape-decides ∙ accepted)) (ap (λ (n : Counts). n .records) same)
-          ∙ lines-at-start records ledger (counts .records) (omega (arith, twelve s tape))
+          ∙ lines-at-start records ledger (counts .records) (omega (arith, length-records s tape))
 
       -- the image as the run left it
       module _ (small : Bytes s) (small-tape : Bytes tape) where
@@ -145,16 +148,16 @@ module _ (s tape ledger : List ℕ) (fine : imageVerdict s ≡ Fine) (few : leng
         at-rest = rule.stopped (after (stateIn s) (runEvents tape))
 
         module _ {t : List ℕ} (left : t ≡ runImage s tape ledger) (b : StoppedAnswer)
-            (told : stopped.told b ≡ stoppedAnswer t) where
+            (told : stopped.inNumbers b ≡ stoppedAnswer t) where
           -- the image is accepted, so the stopped call isn't refused
           pub stopped-refused : {q r : Refusal} → b ≡ stopped-answer.Refused q → r ≡ stopped.refusalOf b
               → refusalLine r ≡ textBy tested (ranText (stateIn s) (runEvents tape))
           stopped-refused {r = r} it found =
               refused-line Fine (bit at-rest ∷ []) (textBy tested (ranText (stateIn s) (runEvents tape))) r
-              (rw (found ∙ ap stopped.refusalOf it) (sym (ap stopped.told it) ∙ told ∙ state-after left))
+              (rw (found ∙ ap stopped.refusalOf it) (sym (ap stopped.inNumbers it) ∙ told ∙ state-after left))
 
           -- yes and no are the rule's
-          pub stopped-says : (said : Bool) → stopped.told b ≡ answer Fine (bit said ∷ []) → at-rest ≡ said
+          pub stopped-says : (said : Bool) → stopped.inNumbers b ≡ answer Fine (bit said ∷ []) → at-rest ≡ said
           stopped-says said it = same-bit said at-rest (sym it ∙ told ∙ state-after left)
 
         -- lines, counts and whether it is stopped are the rules' text

@@ -1,5 +1,5 @@
--- The whole input: N and home are tested by the fresh ring call, whose buffer has room for every ring; then the number of
--- blocks; then the run does what is left, from the fresh ring. Assumes nothing.
+-- The whole input: N and home are tested by the fresh ring call, whose buffer has room for every ring; then the number
+-- of blocks; then the run does what is left, from the fresh ring.
 use Prim.Native.Nat.{ℕ, _-_, _≤_, _<_, min}
 use mathlib.Core.Path.{_≡_, refl, sym, ap, ap₂, _∙_}
 use mathlib.Core.Bool.{Bool, true, false}
@@ -16,13 +16,14 @@ use Rattle.machine.specs.declared.Verdict.the-variants.{Fine, Refused}
 use Rattle.machine.specs.Ring.{sizeFits, imageLength}
 use Rattle.machine.specs.Image.{sizeIn, stateIn}
 use Rattle.machine.specs.Fresh.{freshState}
-use Rattle.machine.specs.Refusals.{orElse, unless, codes, sizeVerdict, homeVerdict, roomVerdict, imageVerdict, tapeVerdict}
+use Rattle.machine.specs.Refusals.{orElse, unless, codes, sizeVerdict, homeVerdict, roomVerdict, imageVerdict}
+use Rattle.machine.specs.Refusals.{tapeVerdict}
 use Rattle.machine.specs.Answers.{answer, freshVerdict, freshAnswer, freshImage, runEvents}
 use Rattle.machine.specs.Report.{fewVerdict, reportVerdict, ranText, refusalLine, textBy, reportText}
 use Rattle.machine.specs.Report.{sizeGiven, homeGiven, tapeGiven}
-use Rattle.machine.proofs.Bytes.{lt-or-ge}
-use Rattle.machine.proofs.Refusals.{first-fine, second-fine, size-fits}
-use Rattle.machine.proofs.Fresh.{fresh-size, fresh-state, fresh-accepted}
+use Rattle.machine.proofs.Laws.Bytes.{lt-or-ge}
+use Rattle.machine.proofs.Laws.Refusals.{first-fine, second-fine, size-fits}
+use Rattle.machine.proofs.Image.Fresh.{fresh-size, fresh-state, fresh-accepted}
 use Rattle.machine.proofs.Report.{too-long}
 use Rattle.image.specs.declared.FreshAnswer.{FreshAnswer}
 use Rattle.image.specs.declared.FreshAnswer.the-variants as fresh-answer
@@ -32,7 +33,8 @@ use Rattle.report.proofs.Apart.{refused-line, done-fine}
 -- ---- the first of the tests that refuses
 
 -- of two tests before others
-first-refuses : (v w x : Verdict) (text values : List ℕ) (r : Refusal) → answer (Refused r) [] ≡ answer (orElse v w) values
+first-refuses : (v w x : Verdict) (text values : List ℕ) (r : Refusal)
+    → answer (Refused r) [] ≡ answer (orElse v w) values
     → refusalLine r ≡ textBy (orElse v (orElse w x)) text
 first-refuses (Refused q) w x text values r e = refused-line (Refused q) values text r e
 first-refuses Fine (Refused q) x text values r e = refused-line (Refused q) values text r e
@@ -88,8 +90,9 @@ blocks-few input is few = rw (blocks-given input is, length-drop 2 input) (omega
 -- ---- the ways
 
 module _ (input buffer : List ℕ) (long : 528 ≤ length buffer) {n home : ℕ} (is-n : n ≡ sizeGiven input)
-    (is-home : home ≡ homeGiven input) (a : FreshAnswer) (says : fresh.told a ≡ freshAnswer n home buffer) where
-  told-as : fresh.told a ≡ answer (orElse (sizeVerdict (sizeGiven input)) (homeVerdict (sizeGiven input) (homeGiven input))) []
+    (is-home : home ≡ homeGiven input) (a : FreshAnswer) (says : fresh.inNumbers a ≡ freshAnswer n home buffer) where
+  told-as : fresh.inNumbers a ≡ answer
+      (orElse (sizeVerdict (sizeGiven input)) (homeVerdict (sizeGiven input) (homeGiven input))) []
   unfolding freshAnswer
   told-as =
       says
@@ -102,11 +105,11 @@ module _ (input buffer : List ℕ) (long : 528 ≤ length buffer) {n home : ℕ}
   unfolding reportText reportVerdict
   fresh-refused {r = r} is found =
       first-refuses (sizeVerdict (sizeGiven input)) (homeVerdict (sizeGiven input) (homeGiven input)) _ _ [] r
-      (rw (found ∙ ap fresh.refusalOf is) (sym (ap fresh.told is) ∙ told-as))
+      (rw (found ∙ ap fresh.refusalOf is) (sym (ap fresh.inNumbers is) ∙ told-as))
 
   module _ (is : a ≡ fresh-answer.Done) where
     both-fine : orElse (sizeVerdict (sizeGiven input)) (homeVerdict (sizeGiven input) (homeGiven input)) ≡ Fine
-    both-fine = done-fine _ [] (sym (ap fresh.told is) ∙ told-as)
+    both-fine = done-fine _ [] (sym (ap fresh.inNumbers is) ∙ told-as)
 
     size-fine : sizeVerdict (sizeGiven input) ≡ Fine
     size-fine = first-fine _ _ both-fine

@@ -1,4 +1,4 @@
--- What the report call's answer tells, in document 01's numbers and values. Assumes nothing.
+-- What the report call's answer tells, in document 01's numbers and values.
 use mathlib.Core.List.{[], _∷_}
 use Rattle.machine.specs.declared.Verdict.the-variants as verdict
 use Rattle.machine.specs.Answers.{Answer, answer}
@@ -6,6 +6,6 @@ use Rattle.report.specs.declared.ReportAnswer.{ReportAnswer}
 use Rattle.report.specs.declared.ReportAnswer.the-variants.{Done, Refused}
 
 -- done has the number of bytes; a refusal has its number and its place
-abbrev pub told : ReportAnswer → Answer
-told (Done filled) = answer verdict.Fine (filled ∷ [])
-told (Refused r) = answer (verdict.Refused r) []
+abbrev pub inNumbers : ReportAnswer → Answer
+inNumbers (Done filled) = answer verdict.Fine (filled ∷ [])
+inNumbers (Refused r) = answer (verdict.Refused r) []

@@ -3,8 +3,8 @@ use image::FreshAnswer;
 use image::Ring;
 use lines::put_ran;
 use lines::put_refusal;
+use little_endian::wide64;
 use machine::Refusal;
-use record::byte::wide64;
 use run::RunAnswer;
 use run::run;
 use span::copy;
@@ -19,7 +19,7 @@ ghost use Rattle.machine.specs.Refusals.{codes, imageVerdict, tapeVerdict};
 ghost use Rattle.machine.specs.Answers.{runEvents};
 ghost use Rattle.machine.specs.Report.{ranText, textBy, reportText, reportAnswer, reportOutput};
 ghost use Rattle.text.specs.Piece.{Piece};
-ghost use Rattle.report.specs.Report.{told};
+ghost use Rattle.report.specs.Report.{inNumbers};
 
 // N, home and 64 blocks: ringrun accepts no more bytes than these.
 pub const MOST_INPUT: usize = 32770;
@@ -93,12 +93,12 @@ fn whole_text(input: &[u8], page: &mut [u8]) -> usize
 }
 
 // The report call: the text that ringrun writes for an input, at the start of the output, whose further bytes stay.
-// Refused with 10 for an output that is too short, and never for one of MOST_TEXT bytes; whatever is wrong with the input
-// is told by the text.
+// Refused with 10 for an output that is too short, and never for one of MOST_TEXT bytes; whatever is wrong with the
+// input is told by the text.
 pub fn report(input: &[u8], output: &mut [u8]) -> ReportAnswer
-    ensures answer { λ r. ⌜ told r ≡ reportAnswer (now (input .entry)) (now (output .entry)) ⌝ }
+    ensures answer { λ r. ⌜ inNumbers r ≡ reportAnswer (now (input .entry)) (now (output .entry)) ⌝ }
     ensures buffer { λ _. ⌜ now (output .exit) ≡ reportOutput (now (input .entry)) (now (output .entry)) ⌝ }
-    ensures room { λ r. ⌜ (125183 ≤ length (now (output .entry)) → told r .number ≡ 0) ⌝ }
+    ensures room { λ r. ⌜ (125183 ≤ length (now (output .entry)) → inNumbers r .number ≡ 0) ⌝ }
 {
     let mut page = [0; MOST_TEXT];
     let end = whole_text(input, &mut page);

@@ -1,6 +1,6 @@
 -- Each way through the three calls of the suite's host is that way through the rule: with a short result slice the
 -- tests alone, else the call's own answer, told. The answers of lower functions are variables here, each with the
--- rule's value that it is known to be. Assumes nothing.
+-- rule's value that it is known to be.
 use Prim.Native.Nat.{ℕ, _≤_, _<_}
 use mathlib.Core.Path.{_≡_, sym, ap, _∙_}
 use mathlib.Core.List.{List, [], _∷_, _++_}
@@ -26,11 +26,11 @@ use Rattle.run.specs.Run as run
 use Rattle.stopped.specs.declared.StoppedAnswer.{StoppedAnswer}
 use Rattle.stopped.specs.declared.StoppedAnswer.the-variants as stopped-answer
 use Rattle.stopped.specs.Stopped as stopped
-use Rattle.refusal.specs.Verdicts.{refusalOf}
-use Rattle.refusal.proofs.Verdicts.{output-unmeasured}
-use Rattle.result.proofs.Words.{told-in-ten}
-use Rattle.result.proofs.Told.{Tells, lent-as-left, done-told, refused-told, lent-untouched, short-told}
-use Rattle.result.proofs.Told.{Leaves, done-left, refused-left, short-left}
+use Rattle.numbers.specs.Verdicts.{refusalOf}
+use Rattle.numbers.proofs.Verdicts.{output-unmeasured}
+use Rattle.result_slice.proofs.Words.{told-in-ten}
+use Rattle.result_slice.proofs.Told.{Tells, lent-as-left, done-told, refused-told, lent-untouched, short-told}
+use Rattle.result_slice.proofs.Told.{Leaves, done-left, refused-left, short-left}
 
 -- ---- step
 
@@ -44,23 +44,25 @@ module _ (image event result : List ℕ) where
       → Stepped n image result
   unfolding stepAnswer
   step-short short is number =
-      short-left result short image (stepImage image event) (stepVerdict image event) _ (number ∙ ap (λ v. numberOf (refusalOf v)) is)
+      short-left result short image (stepImage image event) (stepVerdict image event) _
+      (number ∙ ap (λ v. numberOf (refusalOf v)) is)
 
   module _ (room : 80 ≤ length result) {t : List ℕ} (left : t ≡ stepImage image event) {a : StepAnswer}
-      (says : step.told a ≡ stepAnswer image event) where
+      (says : step.inNumbers a ≡ stepAnswer image event) where
     pub step-refused : {n : ℕ} {u : List ℕ} {q r : Refusal} → a ≡ step-answer.Refused q → r ≡ step.refusalOf a
         → n ≡ numberOf r
         → u ≡ splice result 0 (resultBytes (placeOf r ∷ []))
         → Stepped n t u
     step-refused {r = r} is found number wrote =
-        refused-left result room image left r (rw (found ∙ ap step.refusalOf is) (sym (ap step.told is) ∙ says)) number wrote
+        refused-left result room image left r (rw (found ∙ ap step.refusalOf is) (sym (ap step.inNumbers is) ∙ says))
+        number wrote
 
     pub step-done : {number message : ℕ} {u : List ℕ} (o : Outcome) → a ≡ step-answer.Done o
         → number ≡ outcomeNumber o → message ≡ outcomeMessage o
         → u ≡ splice result 0 (wordsOf (number ∷ message ∷ replicate 8 0))
         → Stepped 0 t u
     step-done o is number message wrote =
-        done-left result room image left (outcomeValues o) (sym (ap step.told is) ∙ says)
+        done-left result room image left (outcomeValues o) (sym (ap step.inNumbers is) ∙ says)
         (told-in-ten result (outcomeValues o) (lit≤ tt) (rw (number, message) at wrote))
 
 -- ---- run
@@ -82,7 +84,9 @@ module _ (image tape ledger result : List ℕ) where
   run-short short is number =
       let tests = tapeVerdict codes (sizeIn image) tape in
       let unmeasured = output-unmeasured (imageVerdict image) tests (length (runRecords image tape)) ledger in
-      let tells = short-told result short (runVerdict image tape ledger) _ (number ∙ ap (λ v. numberOf (refusalOf v)) is ∙ ap numberOf unmeasured) in (
+      let tells =
+      short-told result short (runVerdict image tape ledger) _
+      (number ∙ ap (λ v. numberOf (refusalOf v)) is ∙ ap numberOf unmeasured) in (
         tells .0,
         (
           lent-untouched result short image (runImage image tape ledger),
@@ -97,19 +101,22 @@ module _ (image tape ledger result : List ℕ) where
     ran tells =
         (tells .0, (lent-as-left result room image left, (lent-as-left result room ledger entered, tells .1)))
 
-    module _ {a : RunAnswer} (says : run.told a ≡ runAnswer image tape ledger) where
+    module _ {a : RunAnswer} (says : run.inNumbers a ≡ runAnswer image tape ledger) where
       pub run-refused : {n : ℕ} {u : List ℕ} {q r : Refusal} → a ≡ run-answer.Refused q → r ≡ run.refusalOf a
           → n ≡ numberOf r
           → u ≡ splice result 0 (resultBytes (placeOf r ∷ []))
           → Ran n t l u
-      run-refused {r = r} is found number wrote = ran (refused-told result room r (rw (found ∙ ap run.refusalOf is) (sym (ap run.told is) ∙ says)) number wrote)
+      run-refused {r =
+          r} is found number wrote =
+          ran (refused-told result room r (rw (found ∙ ap run.refusalOf is) (sym (ap run.inNumbers is) ∙ says))
+          number wrote)
 
       pub run-done : {u : List ℕ} (c : Counts) → a ≡ run-answer.Done c
           → u ≡ splice result 0 (wordsOf (countValues c ++ replicate 2 0))
           → Ran 0 t l u
       run-done c is wrote =
           ran
-          (done-told result room (countValues c) (sym (ap run.told is) ∙ says)
+          (done-told result room (countValues c) (sym (ap run.inNumbers is) ∙ says)
           (told-in-ten result (countValues c) (lit≤ tt) wrote))
 
 -- ---- stopped
@@ -118,19 +125,23 @@ module _ (image result : List ℕ) where
   pub stopped-short : length result < 80 → {n : ℕ} {v : Verdict} → v ≡ imageVerdict image → n ≡ numberOf (refusalOf v)
       → Tells (stoppedAnswer image) result n result
   unfolding stoppedAnswer
-  stopped-short short is number = short-told result short (imageVerdict image) _ (number ∙ ap (λ v. numberOf (refusalOf v)) is)
+  stopped-short short is number =
+      short-told result short (imageVerdict image) _ (number ∙ ap (λ v. numberOf (refusalOf v)) is)
 
-  module _ (room : 80 ≤ length result) {a : StoppedAnswer} (says : stopped.told a ≡ stoppedAnswer image) where
+  module _ (room : 80 ≤ length result) {a : StoppedAnswer} (says : stopped.inNumbers a ≡ stoppedAnswer image) where
     pub stopped-refused : {n : ℕ} {u : List ℕ} {q r : Refusal} → a ≡ stopped-answer.Refused q → r ≡ stopped.refusalOf a
         → n ≡ numberOf r
         → u ≡ splice result 0 (resultBytes (placeOf r ∷ []))
         → Tells (stoppedAnswer image) result n u
-    stopped-refused {r = r} is found number wrote = refused-told result room r (rw (found ∙ ap stopped.refusalOf is) (sym (ap stopped.told is) ∙ says)) number wrote
+    stopped-refused {r =
+        r} is found number wrote =
+        refused-told result room r (rw (found ∙ ap stopped.refusalOf is) (sym (ap stopped.inNumbers is) ∙ says))
+        number wrote
 
     pub stopped-yes : {u : List ℕ} → a ≡ stopped-answer.Yes → u ≡ splice result 0 (resultBytes (1 ∷ []))
         → Tells (stoppedAnswer image) result 0 u
-    stopped-yes is wrote = done-told result room (1 ∷ []) (sym (ap stopped.told is) ∙ says) wrote
+    stopped-yes is wrote = done-told result room (1 ∷ []) (sym (ap stopped.inNumbers is) ∙ says) wrote
 
     pub stopped-no : {u : List ℕ} → a ≡ stopped-answer.No → u ≡ splice result 0 (resultBytes (0 ∷ []))
         → Tells (stoppedAnswer image) result 0 u
-    stopped-no is wrote = done-told result room (0 ∷ []) (sym (ap stopped.told is) ∙ says) wrote
+    stopped-no is wrote = done-told result room (0 ∷ []) (sym (ap stopped.inNumbers is) ∙ says) wrote

@@ -1,8 +1,8 @@
 // The run call of the suite's host. Document 01, "The tape", the sentences on the suite's host.
-use result::ROOM;
-use result::refused;
-use result::short;
-use result::tell;
+use result_slice::ROOM;
+use result_slice::refused;
+use result_slice::short;
+use result_slice::tell;
 use run::RunAnswer;
 use run::inputs_verdict;
 use run::run;

@@ -1,10 +1,10 @@
 // The step call of the suite's host. Document 01, "The tape", the sentences on the suite's host.
-use ledger::outcome_message;
-use ledger::outcome_number;
-use result::ROOM;
-use result::refused;
-use result::short;
-use result::tell;
+use numbers::outcome_message;
+use numbers::outcome_number;
+use result_slice::ROOM;
+use result_slice::refused;
+use result_slice::short;
+use result_slice::tell;
 use step::StepAnswer;
 use step::step;
 use step::step_verdict;

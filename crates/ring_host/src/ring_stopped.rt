@@ -1,8 +1,8 @@
 // The stopped call of the suite's host. Document 01, "The tape", the sentences on the suite's host.
-use result::ROOM;
-use result::refused;
-use result::short;
-use result::tell_one;
+use result_slice::ROOM;
+use result_slice::refused;
+use result_slice::short;
+use result_slice::tell_one;
 use sound::image_verdict;
 use stopped::StoppedAnswer;
 use stopped::stopped;

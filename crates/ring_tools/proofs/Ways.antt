@@ -1,6 +1,6 @@
 -- Each way through the three calls of this host is that way through the rule: with a short result slice the tests
 -- alone, else the call's own answer, told. The answers of lower functions are variables here, each with the rule's
--- value that it is known to be. Assumes nothing.
+-- value that it is known to be.
 use Prim.Native.Nat.{ℕ, _≤_, _<_}
 use mathlib.Core.Path.{_≡_, sym, ap, _∙_}
 use mathlib.Core.List.{List, [], _∷_}
@@ -20,10 +20,10 @@ use Rattle.image.specs.Fresh as fresh
 use Rattle.tape.specs.declared.Filled.{Filled}
 use Rattle.tape.specs.declared.Filled.the-variants as filled-answer
 use Rattle.tape.specs.Filled as filled
-use Rattle.refusal.specs.Verdicts.{refusalOf}
-use Rattle.refusal.proofs.Verdicts.{output-unmeasured}
-use Rattle.result.proofs.Words.{told-in-ten}
-use Rattle.result.proofs.Told.{Leaves, done-left, refused-left, short-left}
+use Rattle.numbers.specs.Verdicts.{refusalOf}
+use Rattle.numbers.proofs.Verdicts.{output-unmeasured}
+use Rattle.result_slice.proofs.Words.{told-in-ten}
+use Rattle.result_slice.proofs.Told.{Leaves, done-left, refused-left, short-left}
 
 -- ---- a short result slice
 
@@ -33,7 +33,8 @@ module _ (result : List ℕ) (short : length result < 80) (n : ℕ) where
       → Leaves (freshAnswer n home image) result image (freshImage n home image) m image result
   unfolding freshAnswer
   fresh-short home image is number =
-      short-left result short image (freshImage n home image) (freshVerdict n home image) _ (number ∙ ap (λ v. numberOf (refusalOf v)) is)
+      short-left result short image (freshImage n home image) (freshVerdict n home image) _
+      (number ∙ ap (λ v. numberOf (refusalOf v)) is)
 
   pub write-short : (list output : List ℕ) {m : ℕ} {v : Verdict} → v ≡ orElse (sizeVerdict n) (listVerdict codes n list)
       → m ≡ numberOf (refusalOf v)
@@ -58,29 +59,33 @@ module _ (result : List ℕ) (short : length result < 80) (n : ℕ) where
 module _ (result : List ℕ) (room : 80 ≤ length result) (before : List ℕ) {done t : List ℕ} (left : t ≡ done)
     {a : Answer} where
   -- a fresh ring
-  module _ {f : FreshAnswer} (says : fresh.told f ≡ a) where
+  module _ {f : FreshAnswer} (says : fresh.inNumbers f ≡ a) where
     pub fresh-refused : {m : ℕ} {u : List ℕ} {q r : Refusal} → f ≡ fresh-answer.Refused q → r ≡ fresh.refusalOf f
         → m ≡ numberOf r
         → u ≡ splice result 0 (resultBytes (placeOf r ∷ []))
         → Leaves a result before done m t u
     fresh-refused {r = r} is found number wrote =
-        refused-left result room before left r (rw (found ∙ ap fresh.refusalOf is) (sym (ap fresh.told is) ∙ says)) number wrote
+        refused-left result room before left r (rw (found ∙ ap fresh.refusalOf is) (sym (ap fresh.inNumbers is) ∙ says))
+        number wrote
 
     pub fresh-done : {u : List ℕ} → f ≡ fresh-answer.Done → u ≡ splice result 0 (wordsOf (replicate 10 0))
         → Leaves a result before done 0 t u
     fresh-done is wrote =
-        done-left result room before left [] (sym (ap fresh.told is) ∙ says) (told-in-ten result [] (lit≤ tt) wrote)
+        done-left result room before left [] (sym (ap fresh.inNumbers is) ∙ says)
+        (told-in-ten result [] (lit≤ tt) wrote)
 
   -- writer and reader
-  module _ {f : Filled} (says : filled.told f ≡ a) where
+  module _ {f : Filled} (says : filled.inNumbers f ≡ a) where
     pub filled-refused : {m : ℕ} {u : List ℕ} {q r : Refusal} → f ≡ filled-answer.Refused q → r ≡ filled.refusalOf f
         → m ≡ numberOf r
         → u ≡ splice result 0 (resultBytes (placeOf r ∷ []))
         → Leaves a result before done m t u
     filled-refused {r = r} is found number wrote =
-        refused-left result room before left r (rw (found ∙ ap filled.refusalOf is) (sym (ap filled.told is) ∙ says)) number wrote
+        refused-left result room before left r
+        (rw (found ∙ ap filled.refusalOf is) (sym (ap filled.inNumbers is) ∙ says)) number wrote
 
     pub filled-done : {u : List ℕ} (bytes : ℕ) → f ≡ filled-answer.Done bytes
         → u ≡ splice result 0 (resultBytes (bytes ∷ []))
         → Leaves a result before done 0 t u
-    filled-done bytes is wrote = done-left result room before left (bytes ∷ []) (sym (ap filled.told is) ∙ says) wrote
+    filled-done bytes is wrote =
+        done-left result room before left (bytes ∷ []) (sym (ap filled.inNumbers is) ∙ says) wrote

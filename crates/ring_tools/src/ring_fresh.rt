@@ -1,10 +1,10 @@
 // The fresh ring call of a host, in the manner of the suite's. Document 01, "The tape".
 use image::FreshAnswer;
 use image::Ring;
-use result::ROOM;
-use result::refused;
-use result::short;
-use result::tell;
+use result_slice::ROOM;
+use result_slice::refused;
+use result_slice::short;
+use result_slice::tell;
 ghost use mathlib.Core.Path.{_≡_};
 ghost use Rattle.machine.specs.Answers.{freshAnswer, freshImage};
 ghost use Rattle.machine.specs.Host.{returned, resultAfter, lentWith};

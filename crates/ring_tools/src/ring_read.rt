@@ -1,8 +1,8 @@
 // The reader call of a host, in the manner of the suite's. Document 01, "The tape".
-use result::ROOM;
-use result::refused;
-use result::short;
-use result::tell_one;
+use result_slice::ROOM;
+use result_slice::refused;
+use result_slice::short;
+use result_slice::tell_one;
 use tape::Filled;
 use tape::read;
 use tape::read_verdict;

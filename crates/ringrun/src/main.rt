@@ -2,8 +2,8 @@
 // ledger's records as lines, the counts, and whether the ring is stopped; or the refusal. Document 01, "The tape", its
 // last paragraph.
 //
-// What it writes is `report::report` of what it reads, which is proved; this program only reads and writes. One byte more
-// than can be accepted is enough to know that there is too much, so no more is read.
+// What it writes is `report::report` of what it reads, which is proved; this program only reads and writes. One byte
+// more than can be accepted is enough to know that there is too much, so no more is read.
 use libc::STDIN_FILENO;
 use libc::STDOUT_FILENO;
 use report::MOST_INPUT;

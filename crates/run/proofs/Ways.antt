@@ -1,5 +1,5 @@
 -- Each way through the run call is that way through the rule. The answers of lower functions are variables here, each
--- with the rule's value that it is known to be. Assumes nothing.
+-- with the rule's value that it is known to be.
 use Prim.Native.Nat.{ℕ, _≤_}
 use mathlib.Core.Path.{_≡_, sym, _∙_}
 use mathlib.Core.Bool.{Bool, true, false}
@@ -17,10 +17,10 @@ use Rattle.machine.specs.Image.{sizeIn, stateIn, imageWith}
 use Rattle.machine.specs.Run.{noCounts, countsFrom, countValues, after}
 use Rattle.machine.specs.Refusals.{orElse, codes, imageVerdict, tapeVerdict}
 use Rattle.machine.specs.Answers.{Answer, answer, runEvents, runRecords, runVerdict, runAnswer, runImage, runLedger}
-use Rattle.machine.proofs.Refusals.{first-fine, second-fine, refused-first, fine-then}
-use Rattle.machine.proofs.Refusals.{inputs-refuse, output-refuses, all-fine}
-use Rattle.blocks.specs.Counted.{eventsOn, Accepted}
-use Rattle.play.specs.Playable.{Playable}
+use Rattle.machine.proofs.Laws.Refusals.{first-fine, second-fine, refused-first, fine-then}
+use Rattle.machine.proofs.Laws.Refusals.{inputs-refuse, output-refuses, all-fine}
+use Rattle.tape_test.specs.Accepted.{eventsOn, Accepted}
+use Rattle.replay.specs.Playable.{Playable}
 
 module _ (s tape ledger : List ℕ) where
   -- what the contract says of an answer and both buffers
@@ -84,6 +84,7 @@ module _ (s tape ledger : List ℕ) where
           → Meets (answer verdict.Fine (countValues n)) image records
       unfolding runAnswer runImage runLedger runVerdict
       run-done enough counts wrote entered =
-          let is = all-fine (imageVerdict s) (tapeVerdict codes (sizeIn s) tape) (length (runRecords s tape)) ledger fine
+          let is =
+          all-fine (imageVerdict s) (tapeVerdict codes (sizeIn s) tape) (length (runRecords s tape)) ledger fine
           (has-room enough) in
           (rw (counts, is), (wrote ∙ rw is, entered ∙ rw is))

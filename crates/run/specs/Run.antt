@@ -1,4 +1,4 @@
--- What the run call's answer tells, in document 01's numbers and values. Assumes nothing.
+-- What the run call's answer tells, in document 01's numbers and values.
 use mathlib.Core.List.{[]}
 use Rattle.machine.specs.declared.Refusal.{Refusal}
 use Rattle.machine.specs.declared.Refusal.the-variants as refusal
@@ -9,9 +9,9 @@ use Rattle.run.specs.declared.RunAnswer.{RunAnswer}
 use Rattle.run.specs.declared.RunAnswer.the-variants.{Done, Refused}
 
 -- done has the eight counts in their order; a refusal has its number and its place
-abbrev pub told : RunAnswer → Answer
-told (Done c) = answer verdict.Fine (countValues c)
-told (Refused r) = answer (verdict.Refused r) []
+abbrev pub inNumbers : RunAnswer → Answer
+inNumbers (Done c) = answer verdict.Fine (countValues c)
+inNumbers (Refused r) = answer (verdict.Refused r) []
 
 -- the refusal where it is refused; no other is asked for
 abbrev pub refusalOf : RunAnswer → Refusal

@@ -1,21 +1,21 @@
 // The run call: an image, a tape and a ledger buffer. Everything is tested before a lent byte changes; then every event
 // is performed. Document 01, "The run".
-use blocks::event_count;
-use blocks::tape_verdict;
 use event::Event;
+use little_endian::wide;
 use machine::Counts;
 use machine::Refusal;
 use machine::Verdict;
-use measure::has_room;
-use play::play;
-use record::byte::wide;
-use refusal::refusal_of;
+use numbers::refusal_of;
+use replay::has_room;
+use replay::replay;
 use sound::image_verdict;
+use tape_test::event_count;
+use tape_test::tape_verdict;
 ghost use mathlib.Core.Path.{_≡_};
 ghost use Rattle.machine.specs.Image.{sizeIn};
 ghost use Rattle.machine.specs.Refusals.{codes, imageVerdict, tapeVerdict, orElse};
 ghost use Rattle.machine.specs.Answers.{runAnswer, runImage, runLedger};
-ghost use Rattle.run.specs.Run.{told, refusalOf};
+ghost use Rattle.run.specs.Run.{inNumbers, refusalOf};
 
 // What the run call answers.
 pub enum RunAnswer {
@@ -51,7 +51,7 @@ pub fn inputs_verdict(image: &[u8], tape: &[u8]) -> Verdict
 // The run call: the eight counts, the image after every event, and the records at the start of the ledger, whose
 // further bytes stay; or the refusal of its inputs' verdict, or 10 for a ledger that is too short.
 pub fn run(image: &mut [u8], tape: &[u8], ledger: &mut [u8]) -> RunAnswer
-    ensures answer { λ r. ⌜ told r
+    ensures answer { λ r. ⌜ inNumbers r
         ≡ runAnswer (now (image .entry)) (now (tape .entry)) (now (ledger .entry)) ⌝ }
     ensures buffer { λ _. ⌜ now (image .exit)
         ≡ runImage (now (image .entry)) (now (tape .entry)) (now (ledger .entry)) ⌝ }
@@ -66,6 +66,6 @@ pub fn run(image: &mut [u8], tape: &[u8], ledger: &mut [u8]) -> RunAnswer
     if !has_room(image, tape, events, ledger.len()) {
         return RunAnswer::Refused(Refusal::Output);
     }
-    let counts = play(image, tape, events, ledger);
+    let counts = replay(image, tape, events, ledger);
     RunAnswer::Done(counts)
 }

@@ -1,5 +1,5 @@
 -- All records fit, one by one from the first on, just where the bytes of all are in range and all stages have the
--- envelope that they need. Assumes nothing.
+-- envelope that they need.
 use Prim.Native.Nat.{ℕ, zero, suc, _+_}
 use mathlib.Core.Path.{_≡_, refl, sym, ap, _∙_}
 use mathlib.Core.Bool.{Bool, true, false, _&&_}
@@ -10,8 +10,8 @@ use Rattle.machine.specs.Lists.{every, tabulate, all}
 use Rattle.machine.specs.Fields.{Status}
 use Rattle.machine.specs.Image.{processIn, processesIn}
 use Rattle.machine.specs.Sound.{holds, recordRulesIn, stageFits, recordsFit, stagesFit}
-use Rattle.machine.proofs.Lists.{tabulate-more, all-more}
-use Rattle.machine.proofs.Walk.{processes-more, records-more, stages-more}
+use Rattle.machine.proofs.Laws.Lists.{tabulate-more, all-more}
+use Rattle.machine.proofs.Laws.Walk.{processes-more, records-more, stages-more}
 use Rattle.sound.specs.Walk.{recordFits, fitFrom}
 
 pub pairs : (a b c d : Bool) → (a && b) && (c && d) ≡ (a && c) && (b && d)

@@ -1,5 +1,5 @@
 -- What a record's mask leaves of it: the have and arriving flags where the record fits, and something wrong where it
--- doesn't. A mask and a record are taken apart into four bytes and the note. Assumes nothing.
+-- doesn't. A mask and a record are taken apart into four bytes and the note.
 use Prim.Native.Nat.{ℕ, _+_, _*_, _/_, _%_, _^_, _≤_, _<_}
 use mathlib.Core.Path.{_≡_, refl, sym, _∙_}
 use mathlib.Core.Bool.{Bool, true, false, true≢false, not, cond, _&&_, _||_}
@@ -12,8 +12,8 @@ use Rattle.machine.specs.Fields.{Status, full, empty}
 use Rattle.machine.specs.Image.{processFrom}
 use Rattle.machine.specs.Stages.{noted, markable}
 use Rattle.machine.specs.Sound.{holds, recordRules, stageFits}
-use Rattle.machine.proofs.Bits.{bit-le, bit-off, bit-is, is-bit}
-use Rattle.machine.proofs.Lists.{and-first, and-second, and-both}
+use Rattle.machine.proofs.Laws.Bits.{bit-le, bit-off, bit-is, is-bit}
+use Rattle.machine.proofs.Laws.Lists.{and-first, and-second, and-both}
 use Rattle.sound.specs.Demands.{lawful, markMask, fromParts, lawfulMask, entryOf, unlawfulMask, demandOf}
 use Rattle.sound.specs.Walk.{leftOf, wrongIn}
 use Rattle.sound.proofs.Masks.{two-parts, mask-flags, mask-marks, mask-byte, mask-note, mask-stage}

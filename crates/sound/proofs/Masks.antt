@@ -1,4 +1,4 @@
--- Masks over a word, byte by byte: laws, and tests that the checker computes at all 256 values. Assumes nothing.
+-- Masks over a word, byte by byte: laws, and tests that the checker computes at all 256 values.
 use Prim.Native.Nat.{ℕ, _+_, _*_, _/_, _%_, _^_, _<_}
 use mathlib.Core.Path.{_≡_, refl, _∙_}
 use mathlib.Core.Bool.{Bool, true, false, cond, _&&_}
@@ -9,7 +9,7 @@ use lib.Bits.{bitAnd, and-block, and-mask, and-comm}
 use borrow.Author.Tests.{eqb-true}
 use Rattle.machine.specs.Bytes.{bit, bitOf}
 use Rattle.machine.specs.Lists.{every}
-use Rattle.machine.proofs.Lists.{every-at}
+use Rattle.machine.proofs.Laws.Lists.{every-at}
 
 pub two-parts : (r s a b : ℕ) → r < 256 → s < 256 → bitAnd (r + 256 * a) (s + 256 * b) ≡ bitAnd r s + 256 * bitAnd a b
 two-parts r s a b small little =
@@ -32,7 +32,8 @@ mask-flags flags small = eqb-true _ _ (every-at 256 flagsMasked all-flags flags 
 -- bits 4 and 5, each where it is asked for
 marksMasked : Bool → Bool → ℕ → Bool
 marksMasked a b requests =
-    eqb (bitAnd (16 * bit a + 32 * bit b) requests) (16 * bit (a && bitOf requests 4) + 32 * bit (b && bitOf requests 5))
+    eqb (bitAnd (16 * bit a + 32 * bit b) requests)
+    (16 * bit (a && bitOf requests 4) + 32 * bit (b && bitOf requests 5))
 
 all-marks : (a b : Bool) → every 256 (marksMasked a b) ≡ true
 unfolding every marksMasked

@@ -1,4 +1,4 @@
--- Just one have or arriving flag, as code tests it: one of the two bits is left, alone and once. Assumes nothing.
+-- Just one have or arriving flag, as code tests it: one of the two bits is left, alone and once.
 use Prim.Native.Nat.{ℕ, zero, suc, _+_, _*_}
 use mathlib.Core.Path.{_≡_, refl, sym, ap, _∙_}
 use mathlib.Core.Bool.{Bool, true, false, _&&_, _||_}
@@ -10,7 +10,7 @@ use borrow.Author.Tests.{eqb-true, eq-eqb, lt-ltb}
 use Rattle.machine.specs.Bytes.{bit}
 use Rattle.machine.specs.Fields.{Status}
 use Rattle.machine.specs.Sound.{places}
-use Rattle.machine.proofs.Lists.{and-first, and-second, and-both}
+use Rattle.machine.proofs.Laws.Lists.{and-first, and-second, and-both}
 use Rattle.sound.specs.declared.Walk.{Walk}
 use Rattle.sound.specs.Walk.{wrongIn, Flags, recordsFrom, fitFrom, Walked}
 

@@ -1,5 +1,4 @@
 -- The table of masks, arm by arm, and the entries that no arm names: a test that the checker computes at all 64.
--- Assumes nothing.
 use Prim.Native.Nat.{ℕ, _<_}
 use mathlib.Core.Path.{_≡_, refl, sym}
 use mathlib.Core.Bool.{Bool, true, false, _||_}
@@ -8,7 +7,7 @@ use lib.Dec.{eqb}
 use types.Run.{OneOf}
 use borrow.Author.Tests.{eqb-true, ne-eqb}
 use Rattle.machine.specs.Lists.{every}
-use Rattle.machine.proofs.Lists.{every-at}
+use Rattle.machine.proofs.Laws.Lists.{every-at}
 use Rattle.sound.specs.Demands.{demandOf}
 
 -- an arm that the table has
@@ -46,4 +45,5 @@ all-tested = refl
 pub rest-is : (entry : ℕ) → entry < 64 → NoneOf named entry → 255 ≡ demandOf entry
 unfolding named-or-255
 rest-is entry below none =
-    sym (eqb-true (demandOf entry) 255 (rw (none-among named entry none) at (every-at 64 named-or-255 all-tested entry below)))
+    sym (eqb-true (demandOf entry) 255
+    (rw (none-among named entry none) at (every-at 64 named-or-255 all-tested entry below)))

@@ -1,5 +1,5 @@
 -- The walk over the records, step by step: at first it holds what the rules say of no record, and after each step what
--- they say of one record more. Assumes nothing.
+-- they say of one record more.
 use Prim.Native.Nat.{ℕ, zero, suc, _+_, _-_, _*_, _/_, _%_, _^_, _≤_, _<_}
 use mathlib.Core.Path.{_≡_, refl, sym, _∙_}
 use mathlib.Core.Bool.{Bool, true, false, _||_}
@@ -17,10 +17,10 @@ use Rattle.machine.specs.Lists.{tabulate, all, sum}
 use Rattle.machine.specs.Fields.{Status, full, empty, for}
 use Rattle.machine.specs.Image.{processIn}
 use Rattle.machine.specs.Sound.{places, markedSet}
-use Rattle.machine.proofs.Bits.{bit-le, is-bit}
-use Rattle.machine.proofs.Bytes.{number-4, number-8, number-lt}
-use Rattle.machine.proofs.Lists.{and-first, and-second, length-tabulate}
-use Rattle.machine.proofs.Walk.{places-le, marked-lt}
+use Rattle.machine.proofs.Laws.Bits.{bit-le, is-bit}
+use Rattle.machine.proofs.Laws.Bytes.{number-4, number-8, number-lt}
+use Rattle.machine.proofs.Laws.Lists.{and-first, and-second, length-tabulate}
+use Rattle.machine.proofs.Laws.Walk.{places-le, marked-lt}
 use Rattle.sound.specs.declared.Walk.{Walk}
 use Rattle.sound.specs.Demands.{fromParts}
 use Rattle.sound.specs.Walk.{leftOf, walkedOn, wrongIn, Flags, recordsFrom, recordFits, Walked, countsIn}

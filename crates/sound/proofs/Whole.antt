@@ -1,5 +1,5 @@
 -- Soundness from the header's two words and what the walk gathers: one mask, one order and one compare are the header's
--- rules and both counts, and one flag and nothing else is left just where records and stages fit. Assumes nothing.
+-- rules and both counts, and one flag and nothing else is left just where records and stages fit.
 use Prim.Native.Nat.{ℕ, _+_, _*_, _/_, _%_, _^_, _≤_, _<_}
 use mathlib.Core.Path.{_≡_, refl, sym, ap, _∙_}
 use mathlib.Core.Bool.{Bool, true, false, not, _&&_, _||_, true≢false}
@@ -18,10 +18,10 @@ use Rattle.machine.specs.Lists.{every}
 use Rattle.machine.specs.Fields.{Status, full, empty}
 use Rattle.machine.specs.Image.{envelopeIn, processesIn, sizeIn, stateIn}
 use Rattle.machine.specs.Sound.{headerFits, recordsFit, stagesFit, places, markedSet, restFits, sound, ones64}
-use Rattle.machine.proofs.Bytes.{lt-or-ge, number-8, number-more, number-lt, zeros-number}
-use Rattle.machine.proofs.Lists.{and-first, and-second, and-both, alike}
-use Rattle.machine.proofs.Sound.{sound-facts}
-use Rattle.machine.proofs.Walk.{length-processes, marked-lt, ones-64}
+use Rattle.machine.proofs.Laws.Bytes.{lt-or-ge, number-8, number-more, number-lt, zeros-number}
+use Rattle.machine.proofs.Laws.Lists.{and-first, and-second, and-both, alike}
+use Rattle.machine.proofs.Soundness.Sound.{sound-facts}
+use Rattle.machine.proofs.Laws.Walk.{length-processes, marked-lt, ones-64}
 use Rattle.sound.specs.declared.Walk.{Walk}
 use Rattle.sound.specs.Walk.{recordsFrom, fitFrom, Walked, countsIn}
 use Rattle.sound.proofs.Masks.{two-parts}
@@ -38,7 +38,8 @@ module _ (s : List ℕ) (small : Bytes s) where
   second = number s 8 8
 
   first-is : first
-      ≡ getD s 0 0 + 256 * (getD s 1 0 + 256 * (getD s 2 0 + 256 * (getD s 3 0 + 256 * (getD s 4 0 + 256 * number s 5 3))))
+      ≡ getD s 0 0 + 256 *
+      (getD s 1 0 + 256 * (getD s 2 0 + 256 * (getD s 3 0 + 256 * (getD s 4 0 + 256 * number s 5 3))))
   first-is =
       rw (number-more s 0 7, number-more s 1 6, number-more s 2 5, number-more s 3 4, number-more s 4 3)
 

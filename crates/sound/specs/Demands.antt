@@ -1,5 +1,5 @@
 -- What soundness demands of one process record, as a mask over its eight bytes: document 01, "The image", its paragraph
--- on soundness. A mask's bits must be 0 in the record, but for have and arriving, which are counted. Assumes nothing.
+-- on soundness. A mask's bits must be 0 in the record, but for have and arriving, which are counted.
 use Prim.Native.Nat.{ℕ, _+_, _*_, _/_, _%_}
 use mathlib.Core.Bool.{Bool, not, cond, _&&_}
 use lib.Dec.{eqb, leb}

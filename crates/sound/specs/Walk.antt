@@ -1,5 +1,5 @@
 -- What one walk over the records gathers, for every image, sound or not: document 01, "The image", its paragraph on
--- soundness. Assumes nothing.
+-- soundness.
 use Prim.Native.Nat.{ℕ, _+_, _*_, _/_, _%_, _^_}
 use mathlib.Core.Path.{_≡_}
 use mathlib.Core.Bool.{Bool, true, _&&_}

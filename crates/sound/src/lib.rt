@@ -1,10 +1,10 @@
 // Whether an image is sound: one walk over its records, and what binds them to the header. Document 01, "The image",
 // its paragraph on soundness.
 use image::Ring;
+use little_endian::eight_at;
+use little_endian::wide;
 use machine::Refusal;
 use machine::Verdict;
-use record::byte::eight_at;
-use record::byte::wide;
 use std::num::wrapping_add_u64;
 ghost use mathlib.Core.Path.{_≡_};
 ghost use Prim.Native.Nat.{_+_, _*_, _^_, _≤_, _<_};

@@ -1,26 +1,20 @@
 -- A stretch of bytes, written or tested one byte after the other: a byte more is one more of the splice, or of the
--- test. Assumes nothing.
+-- test.
 use Prim.Native.Nat.{ℕ, zero, suc, _+_, _-_, _<_, _≤_}
 use mathlib.Core.Path.{_≡_, sym, _∙_}
 use mathlib.Core.List.{List, [], _∷_, _++_, append-assoc}
 use mathlib.Core.Bool.{true, _&&_, and-assoc}
 use native.Mathlib.Omega.{arith}
 use lib.ListN.{length, getD, set, take, drop, replicate, length-drop, length-replicate, replicate-append-replicate}
-use lib.ListN.{take-append-drop}
 use lib.Seq.{sets-eq, length-take-le}
 use lib.Bits.{bitOr}
 use lib.Dec.{eqb}
 use Rattle.machine.specs.Bytes.{part, allZero, zeros, splice}
-use Rattle.machine.proofs.Bytes.{zeros-more, length-splice, splice-next}
-use Rattle.machine.proofs.Rewrite.{part-add, part-more}
-use Rattle.span.proofs.Ored.{or-none}
+use Rattle.machine.proofs.Laws.Bytes.{zeros-more, length-splice, splice-next}
+use Rattle.machine.proofs.Image.Rewrite.{part-add, part-more}
+use Rattle.machine.proofs.Laws.Ored.{or-none}
 
 -- ---- written
-
--- nothing yet
-pub splice-none : (s : List ℕ) (at : ℕ) → s ≡ splice s at []
-unfolding splice
-splice-none s at = let e : at + 0 ≡ at = omega arith in rw e (sym (take-append-drop at s))
 
 -- a store is a splice of one byte
 store-splice : (s : List ℕ) (at x : ℕ) → at < length s → set s at x ≡ splice s at (x ∷ [])

@@ -1,6 +1,6 @@
 -- Each way through the step call is that way through the rule. The answers of lower functions are variables here, each
 -- with the rule's value that it is known to be.
-use Prim.Native.Nat.{ℕ, _+_, _*_, _≤_}
+use Prim.Native.Nat.{ℕ, _+_, _*_}
 use mathlib.Core.Path.{_≡_, _∙_}
 use mathlib.Core.List.{List, []}
 use native.Mathlib.Omega.{arith}
@@ -12,7 +12,8 @@ use Rattle.machine.specs.Lists.{tabulate}
 use Rattle.machine.specs.Run.{after}
 use Rattle.machine.specs.Refusals.{codes, imageVerdict, eventVerdict}
 use Rattle.machine.specs.Answers.{answer, outcomeValues, stepVerdict, stepAnswer, stepImage}
-use Rattle.machine.proofs.Refusals.{first-fine, second-fine, refused-first, fine-then, accepted-long, accepted-fits}
+use Rattle.machine.proofs.Laws.Refusals.{first-fine, second-fine, refused-first, fine-then, accepted-long}
+use Rattle.machine.proofs.Laws.Refusals.{accepted-fits}
 use Rattle.turns.specs.declared.Tally.{Tally}
 use Rattle.turns.specs.Turns.{eventsFrom, lastFrom, Turning, Tallied, Ran}
 

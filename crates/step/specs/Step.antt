@@ -1,4 +1,4 @@
--- What the step call's answer tells, in document 01's numbers and values. Assumes nothing.
+-- What the step call's answer tells, in document 01's numbers and values.
 use mathlib.Core.List.{[]}
 use Rattle.machine.specs.declared.Refusal.{Refusal}
 use Rattle.machine.specs.declared.Refusal.the-variants as refusal
@@ -8,9 +8,9 @@ use Rattle.step.specs.declared.StepAnswer.{StepAnswer}
 use Rattle.step.specs.declared.StepAnswer.the-variants.{Done, Refused}
 
 -- done has the outcome's number and message; a refusal has its number and its place
-abbrev pub told : StepAnswer → Answer
-told (Done o) = answer verdict.Fine (outcomeValues o)
-told (Refused r) = answer (verdict.Refused r) []
+abbrev pub inNumbers : StepAnswer → Answer
+inNumbers (Done o) = answer verdict.Fine (outcomeValues o)
+inNumbers (Refused r) = answer (verdict.Refused r) []
 
 -- the refusal where it is refused; no other is asked for
 abbrev pub refusalOf : StepAnswer → Refusal

@@ -1,15 +1,15 @@
 // The step call: an image and one event. Document 01, "The eight events".
 use event::Event;
+use little_endian::wide;
 use machine::Outcome;
 use machine::Refusal;
 use machine::Verdict;
-use record::byte::wide;
-use refusal::refusal_of;
+use numbers::refusal_of;
 use sound::image_verdict;
 use turns::turns;
 ghost use mathlib.Core.Path.{_≡_};
 ghost use Rattle.machine.specs.Answers.{stepVerdict, stepAnswer, stepImage};
-ghost use Rattle.step.specs.Step.{told, refusalOf};
+ghost use Rattle.step.specs.Step.{inNumbers, refusalOf};
 
 // What the step call answers.
 pub enum StepAnswer {
@@ -42,7 +42,7 @@ pub fn step_verdict(image: &[u8], event: &[u8]) -> Verdict
 
 // The step call: the event's outcome, and the image as the event leaves it; or the refusal of its verdict.
 pub fn step(image: &mut [u8], event: &[u8]) -> StepAnswer
-    ensures answer { λ r. ⌜ told r ≡ stepAnswer (now (image .entry)) (now (event .entry)) ⌝ }
+    ensures answer { λ r. ⌜ inNumbers r ≡ stepAnswer (now (image .entry)) (now (event .entry)) ⌝ }
     ensures buffer { λ _. ⌜ now (image .exit) ≡ stepImage (now (image .entry)) (now (event .entry)) ⌝ }
 {
     let verdict = step_verdict(image, event);

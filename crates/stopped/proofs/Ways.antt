@@ -1,5 +1,5 @@
 -- Each way through the stopped call is the rule's. The answers of lower functions are
--- variables here, each with the rule's value that it is known to be. Assumes nothing.
+-- variables here, each with the rule's value that it is known to be.
 use Prim.Native.Nat.{ℕ, _+_, _*_, _≤_}
 use mathlib.Core.Path.{_≡_, sym, _∙_}
 use mathlib.Core.Bool.{Bool, true, false, _&&_}
@@ -13,8 +13,8 @@ use Rattle.machine.specs.Stopped.{quiet, stopped}
 use Rattle.machine.specs.Sound.{headerFits, recordsFit, restFits, sound}
 use Rattle.machine.specs.Refusals.{imageVerdict}
 use Rattle.machine.specs.Answers.{answer, stoppedAnswer}
-use Rattle.machine.proofs.Lists.{and-first, and-second}
-use Rattle.machine.proofs.Refusals.{image-fine}
+use Rattle.machine.proofs.Laws.Lists.{and-first, and-second}
+use Rattle.machine.proofs.Laws.Refusals.{image-fine}
 use Rattle.stopped.specs.Stopped.{QuietAre}
 
 -- ---- the call

@@ -1,5 +1,4 @@
--- The walk of the stopped call, by the records' words: nothing waits exactly when events 2 to 7 are idle. Assumes
--- nothing.
+-- The walk of the stopped call, by the records' words: nothing waits exactly when events 2 to 7 are idle.
 use Prim.Native.Nat.{ℕ, zero, suc, _+_, _*_, _/_, _%_, _≤_, _<_, min, max}
 use mathlib.Core.Path.{_≡_, refl, _∙_}
 use mathlib.Core.Bool.{Bool, true, false, not, _&&_, Bool·beq, and-true}
@@ -17,11 +16,11 @@ use Rattle.machine.specs.Image.{processIn, processesIn}
 use Rattle.machine.specs.Stages.{told}
 use Rattle.machine.specs.Sound.{recordsFit}
 use Rattle.machine.specs.Stopped.{quiet}
-use Rattle.machine.proofs.Lists.{every-at, all-more, same-bool}
-use Rattle.machine.proofs.Sound.{record-facts}
+use Rattle.machine.proofs.Laws.Lists.{every-at, all-more, same-bool}
+use Rattle.machine.proofs.Soundness.Sound.{record-facts}
 use Rattle.machine.proofs.Stopped.{quiet-nothing}
-use Rattle.machine.proofs.Walk.{processes-none, processes-more}
-use Rattle.span.proofs.Ored.{or-none}
+use Rattle.machine.proofs.Laws.Walk.{processes-none, processes-more}
+use Rattle.machine.proofs.Laws.Ored.{or-none}
 use Rattle.sound.specs.Demands.{fromParts}
 use Rattle.sound.proofs.Masks.{two-parts}
 use Rattle.sound.proofs.Fits.{pairs}
@@ -110,17 +109,17 @@ unfolding every bitsTop
 all-top = refl
 
 -- neither main nor get ends this stage
-abbrev restful : ℕ → Bool
-restful stage = not (eqb stage 3) && not (eqb stage 8) && not (told stage)
+abbrev resting : ℕ → Bool
+resting stage = not (eqb stage 3) && not (eqb stage 8) && not (told stage)
 
 sameBits : ℕ → Bool
-sameBits stage = Bool·beq (eqb (bitAnd (13 * stage) 36) 0) (restful stage)
+sameBits stage = Bool·beq (eqb (bitAnd (13 * stage) 36) 0) (resting stage)
 
 all-stages : every 11 sameBits ≡ true
 unfolding every sameBits
 all-stages = refl
 
-bits-2-5 : (stage : ℕ) → stage ≤ 10 → eqb (bitAnd (13 * stage) 36) 0 ≡ restful stage
+bits-2-5 : (stage : ℕ) → stage ≤ 10 → eqb (bitAnd (13 * stage) 36) 0 ≡ resting stage
 unfolding sameBits
 bits-2-5 stage small = same-bool _ _ (every-at 11 sameBits all-stages stage (omega arith))
 
@@ -151,7 +150,8 @@ module _ (stage flags requests third note : ℕ) (s-lt : stage < 256) (f-lt : fl
   word = fromParts stage flags requests third note
 
   links-left : bitAnd word 12584448
-      ≡ fromParts 0 (2 * bit (bitOf flags 1) + 4 * bit (bitOf flags 2)) (64 * bit (bitOf requests 6) + 128 * bit (bitOf requests 7)) 0 0
+      ≡ fromParts 0 (2 * bit (bitOf flags 1) + 4 * bit (bitOf flags 2))
+      (64 * bit (bitOf requests 6) + 128 * bit (bitOf requests 7)) 0 0
   unfolding bitsSix bitsTop
   links-left =
       rw (
@@ -195,7 +195,7 @@ word-quiet s small i stage e =
       bits-2-5 st stage,
       quiet-nothing e (processIn s i),
     )
-    (turn (not (bitOf fl 1)) (not (bitOf rq 6)) (not (bitOf rq 7)) (not (bitOf fl 2)) (restful st))
+    (turn (not (bitOf fl 1)) (not (bitOf rq 6)) (not (bitOf rq 7)) (not (bitOf fl 2)) (resting st))
 
 -- ---- the walk
 

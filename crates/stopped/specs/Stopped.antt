@@ -1,5 +1,4 @@
 -- What the stopped call's answer tells, in document 01's numbers and values, and what its walk finds out by the rule.
--- Assumes nothing.
 use Prim.Native.Nat.{ℕ}
 use mathlib.Core.Path.{_≡_}
 use mathlib.Core.Bool.{Bool}
@@ -16,10 +15,10 @@ use Rattle.stopped.specs.declared.StoppedAnswer.{StoppedAnswer}
 use Rattle.stopped.specs.declared.StoppedAnswer.the-variants.{Yes, No, Refused}
 
 -- 1 for yes, 0 for no; a refusal has its number and its place
-abbrev pub told : StoppedAnswer → Answer
-told Yes = answer verdict.Fine (1 ∷ [])
-told No = answer verdict.Fine (0 ∷ [])
-told (Refused r) = answer (verdict.Refused r) []
+abbrev pub inNumbers : StoppedAnswer → Answer
+inNumbers Yes = answer verdict.Fine (1 ∷ [])
+inNumbers No = answer verdict.Fine (0 ∷ [])
+inNumbers (Refused r) = answer (verdict.Refused r) []
 
 -- the refusal where it is refused; no other is asked for
 abbrev pub refusalOf : StoppedAnswer → Refusal

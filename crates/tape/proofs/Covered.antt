@@ -1,5 +1,5 @@
 -- Where a block's bytes go: byte p of a block is byte p of what the check covers if p is below 4, and byte p − 4 from 8
--- on; 4 to 7 are the check's own. So a byte stored there changes that byte and nothing else. Assumes nothing.
+-- on; 4 to 7 are the check's own. So a byte stored there changes that byte and nothing else.
 use Prim.Native.Nat.{ℕ, _+_, _-_, _*_, _≤_, _<_}
 use mathlib.Core.Path.{_≡_, ap}
 use mathlib.Core.List.{List, [], _∷_, _++_}
@@ -10,7 +10,7 @@ use lib.ListN.{length, set, take, drop}
 use lib.Seq.{set-append-left, take-set-le, take-set-lt, drop-set-lt, drop-set-add}
 use Rattle.machine.specs.Bytes.{part, littleEndian, number}
 use Rattle.machine.specs.Tape.{covered, blockCheck}
-use Rattle.seal.proofs.Words.{length-front}
+use Rattle.checksum.proofs.Words.{length-front}
 
 -- byte p of a block is byte q of what is covered
 abbrev pub Place : ℕ → ℕ → Type 0

@@ -1,6 +1,6 @@
 -- Damaged tapes: one byte of an accepted tape changed, or one word, and the check of that block refuses it. The blocks
 -- before it are as they were, and the check of its bytes, or the check that it is compared with, has moved; only 0 and
--- 65,535 exchanged is not seen. Assumes nothing.
+-- 65,535 exchanged is not seen.
 use Prim.Native.Nat.{ℕ, zero, suc, _+_, _-_, _*_, _/_, _%_, _≤_, _<_}
 use mathlib.Core.Path.{_≡_, refl, sym, ap, _∙_, subst}
 use mathlib.Core.List.{List, [], _∷_}
@@ -14,11 +14,11 @@ use Rattle.machine.specs.declared.Verdict.the-variants.{Fine, Refused}
 use Rattle.machine.specs.Bytes.{part, bytes, Bytes}
 use Rattle.machine.specs.Tape.{check, covered, blockCheck}
 use Rattle.machine.specs.Refusals.{first, lengthVerdict, mostBlocks, checkVerdict, blockVerdict, tapeVerdict}
-use Rattle.machine.proofs.Bytes.{lt-or-ge, number-2}
-use Rattle.machine.proofs.Refusals.{first-fine}
-use Rattle.machine.proofs.Rewrite.{bytes-number}
-use Rattle.blocks.proofs.First.{first-refused}
-use Rattle.blocks.proofs.Blocks.{tape-fine, fine-block}
+use Rattle.machine.proofs.Laws.Bytes.{lt-or-ge, number-2}
+use Rattle.machine.proofs.Laws.Refusals.{first-fine}
+use Rattle.machine.proofs.Image.Rewrite.{bytes-number}
+use Rattle.machine.proofs.Laws.First.{first-refused}
+use Rattle.tape_test.proofs.Blocks.{tape-fine, fine-block}
 use Rattle.tape.proofs.Parts.{same-byte}
 use Rattle.tape.proofs.Same.{block-same}
 use Rattle.tape.proofs.Covered.{part-set-after, covered-apart}

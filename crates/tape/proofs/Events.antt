@@ -1,5 +1,5 @@
 -- The events of an accepted tape, as a run takes them: event k is the one in slot k % 63 of block k / 63, it is at a
--- process of the ring, and its message has 32 bits. Assumes nothing.
+-- process of the ring, and its message has 32 bits.
 use Prim.Native.Nat.{ℕ, _+_, _-_, _*_, _/_, _%_, _^_, _≤_, _<_}
 use mathlib.Core.Path.{_≡_, ap, _∙_}
 use mathlib.Core.Bool.{true}
@@ -16,13 +16,13 @@ use Rattle.machine.specs.Events.{Event}
 use Rattle.machine.specs.Tape.{eventIn, eventsIn, slotAt, listOf}
 use Rattle.machine.specs.Refusals.{tapeVerdict}
 use Rattle.machine.specs.Answers.{runEvents}
-use Rattle.machine.proofs.Bytes.{number-lt}
-use Rattle.machine.proofs.Refusals.{fits-process}
-use Rattle.machine.proofs.Lists.{length-tabulate, getD-tabulate, all-each}
+use Rattle.machine.proofs.Laws.Bytes.{number-lt}
+use Rattle.machine.proofs.Laws.Refusals.{fits-process}
+use Rattle.machine.proofs.Laws.Lists.{length-tabulate, getD-tabulate, all-each}
 use Rattle.machine.proofs.Runs.{fitting}
-use Rattle.blocks.specs.Counted.{eventsOn}
-use Rattle.blocks.proofs.Blocks.{TapeFine, tape-fine}
-use Rattle.blocks.proofs.Lengths.{length-list}
+use Rattle.tape_test.specs.Accepted.{eventsOn}
+use Rattle.tape_test.proofs.Blocks.{TapeFine, tape-fine}
+use Rattle.tape_test.proofs.Lengths.{length-list}
 use Rattle.tape.proofs.Slots.{event-placed, event-read}
 
 -- an event past the end

@@ -1,5 +1,5 @@
 -- Which lengths pass: whole units, so many as may be and no other. The longest tape has 65,536 blocks and the longest
--- list 63 events for each of them; one more is refused. Assumes nothing.
+-- list 63 events for each of them; one more is refused.
 use Prim.Native.Nat.{ℕ, _+_, _*_, _/_, _≤_, _<_}
 use mathlib.Core.Path.{_≡_}
 use mathlib.Core.List.{List}
@@ -10,9 +10,9 @@ use lib.ListN.{length}
 use Rattle.machine.specs.declared.Refusal.the-variants as refusal
 use Rattle.machine.specs.declared.Verdict.the-variants.{Fine, Refused}
 use Rattle.machine.specs.Refusals.{lengthVerdict, tapeVerdict, listVerdict}
-use Rattle.blocks.proofs.Blocks.{length-fine, fine-length}
+use Rattle.tape_test.proofs.Blocks.{length-fine, fine-length}
 -- the longest ones are shown with the rules themselves
-pub use Rattle.machine.proofs.Bites.{longest-tape, longest-list}
+pub use Rattle.machine.proofs.Cases.Boundaries.{longest-tape, longest-list}
 
 -- exactly these lengths pass
 pub which-fit : (unit least most : ℕ) (whole : 0 < unit) (s : List ℕ)

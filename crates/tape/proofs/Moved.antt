@@ -1,5 +1,5 @@
 -- One word changed: it moves the words' sum by less than 65,536, so the check moves with it unless 0 and 65,535 are
--- exchanged, which have the same remainder. Assumes nothing.
+-- exchanged, which have the same remainder.
 use Prim.Native.Nat.{ℕ, zero, suc, _+_, _-_, _*_, _/_, _%_, _≤_, _<_}
 use mathlib.Core.Path.{_≡_, refl, sym, ap, ap₂, _∙_}
 use mathlib.Core.List.{List, [], _∷_}
@@ -7,8 +7,8 @@ use mathlib.Core.Logic.{_⊎_, inl, inr}
 use native.Mathlib.Omega.{arith}
 use lib.ListN.{length, getD, set, length-set}
 use Rattle.machine.specs.Tape.{words, checkFrom}
-use Rattle.machine.proofs.Bytes.{lt-or-ge}
-use Rattle.seal.proofs.Sums.{total, weighed, one-remainder}
+use Rattle.machine.proofs.Laws.Bytes.{lt-or-ge}
+use Rattle.checksum.proofs.Sums.{total, weighed, one-remainder}
 
 -- two bytes stored are a word stored
 pub words-set : (s : List ℕ) (i x y : ℕ) → 2 * i + 1 < length s

@@ -1,5 +1,5 @@
 -- Parts of joins of pieces of one width: what stands at an offset of one piece stands at that offset behind the pieces
--- before it. Where two buffers have the same bytes, they have the same parts, bytes and events there. Assumes nothing.
+-- before it. Where two buffers have the same bytes, they have the same parts, bytes and events there.
 use Prim.Native.Nat.{ℕ, zero, suc, _+_, _-_, _*_, _≤_, _<_}
 use mathlib.Core.Path.{_≡_, sym, ap, _∙_}
 use mathlib.Core.List.{List, _++_, append-nil}
@@ -11,8 +11,8 @@ use Rattle.machine.specs.Bytes.{part, number, zeros}
 use Rattle.machine.specs.Lists.{tabulate, join}
 use Rattle.machine.specs.Tape.{eventIn}
 use Rattle.machine.specs.Refusals.{eventFits}
-use Rattle.span.proofs.Splices.{part-part}
-use Rattle.machine.proofs.Rewrite.{part-add}
+use Rattle.machine.proofs.Laws.Splices.{part-part}
+use Rattle.machine.proofs.Image.Rewrite.{part-add}
 
 -- ---- pieces of one width, the last perhaps shorter, one after the other
 

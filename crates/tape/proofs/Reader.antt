@@ -1,5 +1,5 @@
 -- Each way through the reader is that way through the rule: refused by what it is given or by the room, and done, where
--- the events unpacked are the tape's list. Assumes nothing.
+-- the events unpacked are the tape's list.
 use Prim.Native.Nat.{ℕ, _+_, _-_, _*_, _/_, _^_, _≤_, _<_}
 use mathlib.Core.Path.{_≡_, ap, _∙_}
 use mathlib.Core.List.{List, [], _∷_}
@@ -15,12 +15,12 @@ use Rattle.machine.specs.Lists.{join, tabulate}
 use Rattle.machine.specs.Tape.{blockCount, slotAt, usedSlots, listOf}
 use Rattle.machine.specs.Refusals.{orElse, codes, sizeVerdict, tapeVerdict}
 use Rattle.machine.specs.Answers.{answer, readVerdict, readAnswer, readOutput}
-use Rattle.machine.proofs.Bytes.{lt-or-ge}
-use Rattle.machine.proofs.Refusals.{second-fine, inputs-refuse, output-refuses, all-fine}
-use Rattle.blocks.specs.Counted.{eventsOn, Accepted}
-use Rattle.blocks.proofs.Joined.{joined-same}
-use Rattle.blocks.proofs.Blocks.{TapeFine, tape-fine}
-use Rattle.blocks.proofs.Lengths.{length-list}
+use Rattle.machine.proofs.Laws.Bytes.{lt-or-ge}
+use Rattle.machine.proofs.Laws.Refusals.{second-fine, inputs-refuse, output-refuses, all-fine}
+use Rattle.tape_test.specs.Accepted.{eventsOn, Accepted}
+use Rattle.machine.proofs.Laws.Joined.{joined-same}
+use Rattle.tape_test.proofs.Blocks.{TapeFine, tape-fine}
+use Rattle.tape_test.proofs.Lengths.{length-list}
 use Rattle.pack.specs.Pack.{widthIn, takenFrom}
 
 -- its answer and its output are the rule's

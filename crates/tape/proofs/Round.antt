@@ -1,5 +1,5 @@
 -- The round trips: an accepted list makes an accepted tape that gives it back, and an accepted tape holds an accepted
--- list that makes it again. Both go block by block, and the blocks are joined. Assumes nothing.
+-- list that makes it again. Both go block by block, and the blocks are joined.
 use Prim.Native.Nat.{ℕ, zero, _+_, _-_, _*_, _/_, _%_, _≤_, _<_}
 use mathlib.Core.Path.{_≡_, sym, ap, ap₂, _∙_}
 use mathlib.Core.Bool.{true}
@@ -12,12 +12,13 @@ use Rattle.machine.specs.Bytes.{part, bytes, allZero, zeros, Bytes}
 use Rattle.machine.specs.Tape.{covered, blockCount, slotAt, usedSlots, listOf}
 use Rattle.machine.specs.Tape.{blockBytes, slotsFor, padded, blockFor, blocksFor, tapeOf}
 use Rattle.machine.specs.Refusals.{eventFits, listVerdict, tapeVerdict}
-use Rattle.machine.proofs.Written.{no-byte-set}
-use Rattle.machine.proofs.Rewrite.{part-add, zero-part, bytes-number}
-use Rattle.blocks.proofs.Joined.{joined-same}
-use Rattle.blocks.proofs.Blocks.{ListFine, list-fine, fine-list, BlockFine, TapeFine, tape-fine, fine-tape}
-use Rattle.blocks.proofs.Lengths.{length-slots, slots-most, length-tape, length-used, length-list}
-use Rattle.span.proofs.Splices.{part-part}
+use Rattle.machine.proofs.Image.Written.{no-byte-set}
+use Rattle.machine.proofs.Image.Rewrite.{part-add, zero-part, bytes-number}
+use Rattle.machine.proofs.Laws.Joined.{joined-same}
+use Rattle.tape_test.proofs.Blocks.{ListFine, list-fine, fine-list, BlockFine, TapeFine, tape-fine, fine-tape}
+use Rattle.machine.proofs.Tapes.{length-slots, slots-most, length-tape}
+use Rattle.tape_test.proofs.Lengths.{length-used, length-list}
+use Rattle.machine.proofs.Laws.Splices.{part-part}
 use Rattle.tape.proofs.Parts.{joined-parts}
 use Rattle.tape.proofs.Written.{used, number-written, count-written, check-written, slots-written}
 use Rattle.tape.proofs.Slots.{fits-written, event-placed, slots-read, fits-read}

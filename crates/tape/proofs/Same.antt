@@ -1,5 +1,5 @@
 -- A block's verdict depends on that block's bytes alone, and on the tape's length: every byte that a test reads stands
--- in the block, since a count above 63 is refused before a slot is read. Assumes nothing.
+-- in the block, since a count above 63 is refused before a slot is read.
 use Prim.Native.Nat.{ℕ, _+_, _-_, _*_, _≤_}
 use mathlib.Core.Path.{_≡_, refl, ap, ap₂}
 use mathlib.Core.List.{List}
@@ -12,9 +12,9 @@ use Rattle.machine.specs.Bytes.{part, littleEndian, number, zeros}
 use Rattle.machine.specs.Tape.{covered, blockCount, slotAt}
 use Rattle.machine.specs.Refusals.{orElse, checkVerdict, blockFits, numberVerdict}
 use Rattle.machine.specs.Refusals.{usedVerdict, unusedVerdict, blockVerdict}
-use Rattle.machine.proofs.Refusals.{unless-fine}
-use Rattle.blocks.proofs.First.{first-same}
-use Rattle.blocks.proofs.Blocks.{fits-most, slotTest}
+use Rattle.machine.proofs.Laws.Refusals.{unless-fine}
+use Rattle.machine.proofs.Laws.First.{first-same}
+use Rattle.tape_test.proofs.Blocks.{fits-most, slotTest}
 use Rattle.tape.proofs.Parts.{same-part, same-fits}
 
 -- a later test counts only where the earlier one passes

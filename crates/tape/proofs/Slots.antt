@@ -1,5 +1,5 @@
 -- Where event k stands: in slot k % 63 of block k / 63 of the tape, and at 8 * k of the list. So it is for an accepted
--- tape and the list that a reader gives, and for a list and the tape that a writer gives. Assumes nothing.
+-- tape and the list that a reader gives, and for a list and the tape that a writer gives.
 use Prim.Native.Nat.{ℕ, _+_, _-_, _*_, _/_, _%_, _≤_, _<_}
 use mathlib.Core.Path.{_≡_, refl, sym, ap, _∙_}
 use mathlib.Core.Bool.{Bool, true, false}
@@ -11,9 +11,10 @@ use borrow.Author.Tests.{eqb-true, eqb-false}
 use Rattle.machine.specs.Bytes.{part}
 use Rattle.machine.specs.Tape.{eventIn, blockCount, slotAt, usedSlots, listOf, slotsFor, padded, tapeOf}
 use Rattle.machine.specs.Refusals.{eventFits}
-use Rattle.blocks.proofs.Blocks.{TapeFine}
-use Rattle.blocks.proofs.Lengths.{length-slots, length-used, length-full, length-list}
-use Rattle.span.proofs.Splices.{part-part, part-front}
+use Rattle.tape_test.proofs.Blocks.{TapeFine}
+use Rattle.machine.proofs.Tapes.{length-slots}
+use Rattle.tape_test.proofs.Lengths.{length-used, length-full, length-list}
+use Rattle.machine.proofs.Laws.Splices.{part-part, part-front}
 use Rattle.tape.proofs.Parts.{part-joined, same-event, same-fits}
 use Rattle.tape.proofs.Written.{slots-written}
 

@@ -1,6 +1,6 @@
 -- The round trips of the calls: what the writer filled, the reader gives back, and the other way round. Each call's
 -- tests are those of the size, of its input and of the room, so an accepted first call makes the second one accepted
--- wherever there is room; and a tape damaged between them is refused. Assumes nothing.
+-- wherever there is room; and a tape damaged between them is refused.
 use Prim.Native.Nat.{ℕ, _/_, _≤_, _<_}
 use mathlib.Core.Path.{_≡_, refl}
 use mathlib.Core.List.{List, [], _∷_}
@@ -13,8 +13,8 @@ use Rattle.machine.specs.Bytes.{splice, Bytes}
 use Rattle.machine.specs.Tape.{listOf, tapeOf}
 use Rattle.machine.specs.Refusals.{orElse, codes, sizeVerdict, listVerdict, tapeVerdict, outputVerdict}
 use Rattle.machine.specs.Answers.{answer, writeVerdict, writeAnswer, writeOutput, readVerdict, readAnswer, readOutput}
-use Rattle.machine.proofs.Refusals.{first-fine, second-fine, inTurn, all-fine}
-use Rattle.span.proofs.Splices.{part-written}
+use Rattle.machine.proofs.Laws.Refusals.{first-fine, second-fine, inTurn, all-fine}
+use Rattle.machine.proofs.Laws.Splices.{part-written}
 use Rattle.tape.proofs.Round.{written-accepted, read-written, read-accepted, written-read}
 use Rattle.tape.proofs.Damage.{one-byte}
 

@@ -1,5 +1,5 @@
 -- One word of a block changed: it is one word of what the check covers, so the check of the block's bytes moves unless
--- 0 and 65,535 are exchanged, and the check that stands in the block is kept. Assumes nothing.
+-- 0 and 65,535 are exchanged, and the check that stands in the block is kept.
 use Prim.Native.Nat.{ℕ, _+_, _-_, _*_, _/_, _%_, _≤_, _<_}
 use mathlib.Core.Path.{_≡_, ap, _∙_}
 use mathlib.Core.List.{List}
@@ -8,8 +8,8 @@ use native.Mathlib.Omega.{arith}
 use lib.ListN.{length, getD, set, length-set}
 use Rattle.machine.specs.Bytes.{number, Bytes}
 use Rattle.machine.specs.Tape.{words, check, covered, blockCheck}
-use Rattle.machine.proofs.Bytes.{number-2}
-use Rattle.seal.proofs.Words.{length-covered, length-covered-words, word-front, word-slots}
+use Rattle.machine.proofs.Laws.Bytes.{number-2}
+use Rattle.checksum.proofs.Words.{length-covered, length-covered-words, word-front, word-slots}
 use Rattle.tape.proofs.Covered.{Place, covered-set, check-apart}
 use Rattle.tape.proofs.Moved.{Exchanged, words-set, check-stayed, check-stays}
 

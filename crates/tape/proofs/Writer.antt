@@ -1,5 +1,5 @@
 -- Each way through the writer is that way through the rule: refused by what it is given or by the room, and done, where
--- the blocks packed are the list's tape. Assumes nothing.
+-- the blocks packed are the list's tape.
 use Prim.Native.Nat.{ℕ, _*_, _/_, _≤_, _<_}
 use mathlib.Core.Path.{_≡_, _∙_}
 use mathlib.Core.List.{List, [], _∷_}
@@ -14,9 +14,9 @@ use Rattle.machine.specs.Lists.{join, tabulate}
 use Rattle.machine.specs.Tape.{blockFor, blocksFor, tapeOf}
 use Rattle.machine.specs.Refusals.{orElse, codes, sizeVerdict, listVerdict}
 use Rattle.machine.specs.Answers.{answer, writeVerdict, writeAnswer, writeOutput}
-use Rattle.machine.proofs.Refusals.{second-fine, inputs-refuse, output-refuses, all-fine}
-use Rattle.blocks.proofs.Blocks.{list-fine}
-use Rattle.blocks.proofs.Lengths.{length-tape}
+use Rattle.machine.proofs.Laws.Refusals.{second-fine, inputs-refuse, output-refuses, all-fine}
+use Rattle.tape_test.proofs.Blocks.{list-fine}
+use Rattle.machine.proofs.Tapes.{length-tape}
 
 -- its answer and its output are the rule's
 abbrev Wrote : ℕ → List ℕ → List ℕ → Verdict → List ℕ → List ℕ → Type 0

@@ -1,5 +1,5 @@
 -- What stands in block b of the tape that a list makes: number, count, check and slots, each read back as it was
--- written. A block is 512 bytes, so its own bytes are a part of the tape. Assumes nothing.
+-- written. A block is 512 bytes, so its own bytes are a part of the tape.
 use Prim.Native.Nat.{ℕ, _+_, _*_, _/_, _≤_, _<_}
 use mathlib.Core.Path.{_≡_, sym, ap, ap₂, _∙_}
 use mathlib.Core.List.{List, _++_}
@@ -9,10 +9,10 @@ use lib.Seq.{take-all}
 use Rattle.machine.specs.Bytes.{part, littleEndian, number, bytes}
 use Rattle.machine.specs.Tape.{check, words, blockNumber, blockCount, blockCheck, covered}
 use Rattle.machine.specs.Tape.{blockBytes, slotsFor, padded, blockFor, blocksFor, tapeOf}
-use Rattle.machine.proofs.Bytes.{littleEndian-bytes-2, littleEndian-bytes-4}
-use Rattle.seal.proofs.Sums.{check-small}
-use Rattle.blocks.proofs.Lengths.{slots-most, length-padded, length-block}
-use Rattle.span.proofs.Splices.{part-part}
+use Rattle.machine.proofs.Laws.Bytes.{littleEndian-bytes-2, littleEndian-bytes-4}
+use Rattle.checksum.proofs.Sums.{check-small}
+use Rattle.machine.proofs.Tapes.{slots-most, length-padded, length-block}
+use Rattle.machine.proofs.Laws.Splices.{part-part}
 use Rattle.tape.proofs.Parts.{part-joined}
 
 -- how many slots of block b are used

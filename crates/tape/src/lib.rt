@@ -1,20 +1,20 @@
 // The writer and reader calls: a list of event bytes made into a tape, and a tape read back. Document 01, "The tape".
-use blocks::event_count;
-use blocks::list_verdict;
-use blocks::tape_verdict;
 use event::Event;
 use image::Ring;
 use machine::Refusal;
 use machine::Verdict;
+use numbers::refusal_of;
 use pack::pack;
 use pack::unpack;
-use refusal::refusal_of;
+use tape_test::event_count;
+use tape_test::list_verdict;
+use tape_test::tape_verdict;
 ghost use mathlib.Core.Path.{_≡_};
 ghost use Prim.Native.Nat.{_≤_};
 ghost use Rattle.machine.specs.Tape.{blocksFor};
 ghost use Rattle.machine.specs.Refusals.{orElse, codes, sizeVerdict, listVerdict, tapeVerdict};
 ghost use Rattle.machine.specs.Answers.{writeAnswer, writeOutput, readAnswer, readOutput};
-ghost use Rattle.tape.specs.Filled.{told, refusalOf};
+ghost use Rattle.tape.specs.Filled.{inNumbers, refusalOf};
 
 // What the writer and the reader answer: how many bytes of the output they filled.
 pub enum Filled {
@@ -56,7 +56,7 @@ pub fn write_verdict(n: u64, list: &[u8]) -> Verdict
 // The writer call: the tape of a list of event bytes for n processes, at the start of the output, whose further bytes
 // stay; or the refusal of its inputs' verdict, or 10 for the output.
 pub fn write(n: u64, list: &[u8], output: &mut [u8]) -> Filled
-    ensures answer { λ r. ⌜ told r ≡ writeAnswer n (now (list .entry)) (now (output .entry)) ⌝ }
+    ensures answer { λ r. ⌜ inNumbers r ≡ writeAnswer n (now (list .entry)) (now (output .entry)) ⌝ }
     ensures buffer { λ _. ⌜ now (output .exit) ≡ writeOutput n (now (list .entry)) (now (output .entry)) ⌝ }
 {
     let verdict = write_verdict(n, list);
@@ -72,8 +72,8 @@ pub fn write(n: u64, list: &[u8], output: &mut [u8]) -> Filled
     Filled::Done(tape_length)
 }
 
-// Internal: the verdict of what the reader is given: 1 for n, 6 for the tape's length, block by block 7, 8, 5 and 9. The
-// output's stands apart.
+// Internal: the verdict of what the reader is given: 1 for n, 6 for the tape's length, block by block 7, 8, 5 and 9.
+// The output's stands apart.
 pub fn read_verdict(n: u64, tape: &[u8]) -> Verdict
     ensures { λ r. ⌜ r ≡ orElse (sizeVerdict n) (tapeVerdict codes n (now (tape .entry))) ⌝ }
 {
@@ -86,14 +86,15 @@ pub fn read_verdict(n: u64, tape: &[u8]) -> Verdict
 // The reader call: the list of event bytes of a tape for n processes, at the start of the output, whose further bytes
 // stay; or the refusal of its inputs' verdict, or 10 for the output.
 pub fn read(n: u64, tape: &[u8], output: &mut [u8]) -> Filled
-    ensures answer { λ r. ⌜ told r ≡ readAnswer n (now (tape .entry)) (now (output .entry)) ⌝ }
+    ensures answer { λ r. ⌜ inNumbers r ≡ readAnswer n (now (tape .entry)) (now (output .entry)) ⌝ }
     ensures buffer { λ _. ⌜ now (output .exit) ≡ readOutput n (now (tape .entry)) (now (output .entry)) ⌝ }
 {
     let verdict = read_verdict(n, tape);
     let Verdict::Fine = verdict else {
         return Filled::Refused(refusal_of(verdict));
     };
-    let list_length = 8 * event_count(tape);
+    let events = event_count(tape);
+    let list_length = 8 * events;
     if output.len() < list_length {
         return Filled::Refused(Refusal::Output);
     }

@@ -1,4 +1,4 @@
--- Pieces of text one after the other are one piece. Assumes nothing.
+-- Pieces of text one after the other are one piece.
 use Prim.Native.Nat.{ℕ, _+_, _/_, _%_, _≤_, _<_}
 use mathlib.Core.Path.{_≡_, ap, subst, _∙_}
 use mathlib.Core.List.{List, [], _∷_, _++_}
@@ -7,9 +7,10 @@ use lib.ListN.{length, set, length-append}
 use lib.Seq.{take-length}
 use Rattle.machine.specs.Bytes.{part, splice}
 use Rattle.machine.specs.Text.{decimal}
-use Rattle.machine.proofs.Bytes.{length-splice, splice-next}
+use Rattle.machine.proofs.Laws.Bytes.{length-splice, splice-next}
 use Rattle.machine.proofs.Text.{decimal-one, decimal-more, length-one, length-more}
-use Rattle.span.proofs.Laws.{splice-none, splice-one}
+use Rattle.machine.proofs.Laws.Splices.{splice-none}
+use Rattle.span.proofs.Laws.{splice-one}
 use Rattle.text.specs.Piece.{Piece}
 
 -- the same piece, said otherwise

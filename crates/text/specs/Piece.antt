@@ -1,4 +1,4 @@
--- A piece of text written into a buffer. Assumes nothing.
+-- A piece of text written into a buffer.
 use Prim.Native.Nat.{ℕ, _+_, _≤_}
 use mathlib.Core.Path.{_≡_}
 use mathlib.Core.List.{List}

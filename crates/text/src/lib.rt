@@ -1,5 +1,6 @@
-// Text in ASCII, written into lent bytes: numbers in decimal, texts, and either as a field of a line, with the byte that
-// parts or ends it. Every function answers the place where the text goes on. Document 01, "The tape", its last paragraph.
+// Text in ASCII, written into lent bytes: numbers in decimal, texts, and either as a field of a line, with the byte
+// that parts or ends it. Every function answers the place where the text goes on. Document 01, "The tape", its last
+// paragraph.
 use span::copy;
 ghost use mathlib.Core.Path.{_≡_};
 ghost use mathlib.Core.List.{[], _∷_, _++_};

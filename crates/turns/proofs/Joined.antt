@@ -1,5 +1,4 @@
--- Two lists of events, one after the other: what they come to is what the second comes to after the first. Assumes
--- nothing.
+-- Two lists of events, one after the other: what they come to is what the second comes to after the first.
 use Prim.Native.Nat.{ℕ, _+_, _*_, _<_}
 use mathlib.Core.Path.{_≡_, refl, sym, ap, _∙_}
 use mathlib.Core.Bool.{true}
@@ -14,12 +13,12 @@ use Rattle.machine.specs.Image.{State, sizeIn, stateIn}
 use Rattle.machine.specs.Events.{Event, outcome, apply}
 use Rattle.machine.specs.Run.{ledgerEntry, ledgerFrom, noCounts, counted, countsFrom, after}
 use Rattle.machine.specs.Refusals.{imageVerdict}
-use Rattle.machine.proofs.Bytes.{splice-next}
-use Rattle.machine.proofs.Lists.{all-each}
-use Rattle.machine.proofs.Kept.{image-over}
+use Rattle.machine.proofs.Laws.Bytes.{splice-next}
+use Rattle.machine.proofs.Laws.Lists.{all-each}
+use Rattle.machine.proofs.Soundness.Kept.{image-over}
 use Rattle.machine.proofs.Runs.{fitting, length-after, none-left, events-continue}
 use Rattle.machine.proofs.Tallies.{length-ledger}
-use Rattle.span.proofs.Laws.{splice-none}
+use Rattle.machine.proofs.Laws.Splices.{splice-none}
 use Rattle.turns.specs.Turns.{lastFrom, Ran}
 
 after-joined : (vs ws : List Event) (st : State) → after st (vs ++ ws) ≡ after (after st vs) ws

@@ -1,5 +1,5 @@
 -- Laws that the functions of this crate cite, and that its callers need.
 pub mod Joined
 pub mod Packed
-pub mod Going
+pub mod Progress
 pub mod Ways

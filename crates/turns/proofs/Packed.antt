@@ -1,5 +1,5 @@
 -- Counts of at most 63 events in one word: an event adds one to a byte for its outcome, and one to a byte for what it
--- starts; no byte goes above 63, so the bytes are the counts. Assumes nothing.
+-- starts; no byte goes above 63, so the bytes are the counts.
 use Prim.Native.Nat.{ℕ, zero, suc, _+_, _*_, _/_, _%_, _^_, _≤_, _<_}
 use mathlib.Core.Path.{_≡_, refl}
 use mathlib.Core.Bool.{not, _&&_, and-true, and-false}
@@ -18,7 +18,7 @@ use Rattle.machine.specs.Bytes.{bit, littleEndian}
 use Rattle.machine.specs.Image.{State}
 use Rattle.machine.specs.Events.{Event}
 use Rattle.machine.specs.Run.{outcomeNumber, noCounts, counted, countsFrom}
-use Rattle.machine.proofs.Bits.{bit-le}
+use Rattle.machine.proofs.Laws.Bits.{bit-le}
 use Rattle.machine.proofs.Tallies.{puts-add, gets-add, fills-add, takes-add, sent-add, got-add, idle-add, records-add}
 use Rattle.ledger.specs.Bounds.{NoneAbove}
 use Rattle.ledger.proofs.Bounds.{none-above-start, counted-above}

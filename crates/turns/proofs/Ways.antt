@@ -1,5 +1,5 @@
 -- One turn of the loop, each way that it goes: idle, moved without a record, or with one. What the lower functions
--- answered is a variable here, with the value that it is known to be. Assumes nothing.
+-- answered is a variable here, with the value that it is known to be.
 use Prim.Native.Nat.{ℕ, _+_, _*_, _%_, _^_, _≤_, _<_}
 use mathlib.Core.Path.{_≡_, refl, sym, ap, _∙_}
 use mathlib.Core.Bool.{and-false}
@@ -15,17 +15,17 @@ use Rattle.machine.specs.Events as rule
 use Rattle.machine.specs.Tape.{eventIn}
 use Rattle.machine.specs.Run.{outcomeNumber, ledgerEntry}
 use Rattle.machine.specs.Refusals.{codes}
-use Rattle.machine.proofs.Bytes.{number-lt}
-use Rattle.machine.proofs.Ways.{choice}
-use Rattle.machine.proofs.Refusals.{fits-process, fits-code, fits-silent}
+use Rattle.machine.proofs.Laws.Bytes.{number-lt}
+use Rattle.machine.proofs.Soundness.Ways.{choice}
+use Rattle.machine.proofs.Laws.Refusals.{fits-process, fits-code, fits-silent}
 use Rattle.machine.proofs.Tallies.{length-entry}
-use Rattle.span.proofs.Laws.{splice-none}
+use Rattle.machine.proofs.Laws.Splices.{splice-none}
 use Rattle.event.specs.declared.Event.{Event}
 use Rattle.event.specs.Parsed.{eventOf, ruled}
 use Rattle.ledger.specs.Record.{enteredIn}
 use Rattle.place.specs.Performed.{Performable, startedAs}
 use Rattle.turns.proofs.Packed.{weight, starts, numbered}
-use Rattle.turns.proofs.Going.{Going, stands, event-fits, going-on}
+use Rattle.turns.proofs.Progress.{Progress, stands, event-fits, going-on}
 
 -- ---- what an event adds, by its outcome's number
 
@@ -60,7 +60,7 @@ module _ (l : List ℕ) (place k process : ℕ) (o : Outcome) {number : ℕ} (is
 -- ---- one turn
 
 module _ {s₀ bytes : List ℕ} {start first end : ℕ} {l₀ : List ℕ} {from : ℕ} {s l : List ℕ} {word : ℕ} {last : Outcome}
-    {place k at : ℕ} (g : Going s₀ bytes start first end l₀ from s l word last place k at) (next : k < end)
+    {place k at : ℕ} (g : Progress s₀ bytes start first end l₀ from s l word last place k at) (next : k < end)
     {event : Event} (read : event ≡ eventOf (eventIn bytes at)) where
   pub may-perform : Performable s event
   unfolding eventIn
@@ -78,6 +78,6 @@ module _ {s₀ bytes : List ℕ} {start first end : ℕ} {l₀ : List ℕ} {from
   pub turned : {o : Outcome} {s' : List ℕ} → o ≡ rule.outcome (stateIn s) (ruled event)
       → s' ≡ imageWith s (rule.apply (stateIn s) (ruled event)) → (l' : List ℕ) (word' place' : ℕ)
       → word' ≡ word + weight (event .code) o → Entered l place (ledgerEntry k (event .process) o) l' place'
-      → Going s₀ bytes start first end l₀ from s' l' word' o place' (k + 1) (at + 8)
+      → Progress s₀ bytes start first end l₀ from s' l' word' o place' (k + 1) (at + 8)
   turned says wrote _ _ _ more entered =
       rw (more, entered .0, entered .1, wrote, says, read) (going-on g next)

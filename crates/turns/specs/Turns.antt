@@ -1,4 +1,4 @@
--- What must be known before events are performed one after the other, and what they then come to. Assumes nothing.
+-- What must be known before events are performed one after the other, and what they then come to.
 use Prim.Native.Nat.{ℕ, _+_, _-_, _*_, _/_, _%_, _^_, _≤_, _<_}
 use mathlib.Core.Path.{_≡_}
 use mathlib.Core.Bool.{true}

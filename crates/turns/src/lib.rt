@@ -2,9 +2,9 @@
 // and a run go through. Document 01, "The run".
 use event::Event;
 use ledger::enter;
-use ledger::outcome_number;
 use machine::Counts;
 use machine::Outcome;
+use numbers::outcome_number;
 use place::perform;
 ghost use mathlib.Core.Path.{_≡_};
 ghost use Prim.Native.Nat.{_-_};

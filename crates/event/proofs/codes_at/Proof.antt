@@ -1,4 +1,4 @@
--- Each arm is its stage's codes, and no other stage has any. Assumes nothing.
+-- Each arm is its stage's codes, and no other stage has any.
 use borrow.Author.Tests.{ne-eqb}
 use Rattle.event.specs.Rows.{codesAt}
 use Rattle.event.proofs.codes_at.Statement.{statement}

@@ -1,4 +1,4 @@
--- Each arm is its code's row, and there is no code past them. Assumes nothing.
+-- Each arm is its code's row, and there is no code past them.
 use native.Mathlib.Omega.{arith}
 use Rattle.event.proofs.Codes.{past}
 use Rattle.event.specs.Rows.{rowOf}

@@ -1,4 +1,4 @@
--- Where the stage is 4 the envelope is filled, elsewhere emptied, each as the rule has it (Works). Assumes nothing.
+-- Where the stage is 4 the envelope is filled, elsewhere emptied, each as the rule has it (Works).
 use mathlib.Core.Path.{refl, sym, _∙_}
 use mathlib.Core.Bool.{true, false}
 use borrow.Author.Needs.{needs}

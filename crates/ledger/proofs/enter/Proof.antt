@@ -1,4 +1,4 @@
--- A record without room is left out; any other is that of its outcome's number and message. Assumes nothing.
+-- A record without room is left out; any other is that of its outcome's number and message.
 use borrow.Author.Needs.{needs}
 use Rattle.ledger.proofs.Ways.{entered-short, entered}
 use Rattle.ledger.proofs.enter.Statement.{statement}

@@ -1,4 +1,4 @@
--- Three stores of four bytes, one after the other, are one record. Assumes nothing.
+-- Three stores of four bytes, one after the other, are one record.
 use native.Mathlib.Omega.{arith}
 use Rattle.ledger.proofs.Ways.{stored}
 use Rattle.ledger.proofs.put_record.Statement.{statement}

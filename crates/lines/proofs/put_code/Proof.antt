@@ -1,4 +1,4 @@
--- Each code's word with a space behind it; any other code has none. Assumes nothing.
+-- Each code's word with a space behind it; any other code has none.
 use Prim.Native.Nat.{ℕ}
 use mathlib.Core.Path.{sym, ap}
 use mathlib.Core.List.{List, [], _∷_, _++_}
@@ -17,19 +17,35 @@ spaced code = codeWord code ++ (space ∷ [])
 
 returns : tie.Need-returns
 unfolding text
-returns c = (piece-is (ap spaced (sym (c .before .before .before .before .before .match .keys1))) (c .before .before .text-field .ensures .0), omega arith)
+returns c = (
+  piece-is (ap spaced (sym (c .before .before .before .before .before .match .keys1)))
+      (c .before .before .text-field .ensures .0),
+  omega arith,
+)
 
 returns-2 : tie.Need-returns-2
 unfolding text
-returns-2 c = (piece-is (ap spaced (sym (c .before .before .before .before .before .match .keys2))) (c .before .before .text-field2 .ensures .0), omega arith)
+returns-2 c = (
+  piece-is (ap spaced (sym (c .before .before .before .before .before .match .keys2)))
+      (c .before .before .text-field2 .ensures .0),
+  omega arith,
+)
 
 returns-3 : tie.Need-returns-3
 unfolding text
-returns-3 c = (piece-is (ap spaced (sym (c .before .before .before .before .before .match .keys3))) (c .before .before .text-field3 .ensures .0), omega arith)
+returns-3 c = (
+  piece-is (ap spaced (sym (c .before .before .before .before .before .match .keys3)))
+      (c .before .before .text-field3 .ensures .0),
+  omega arith,
+)
 
 returns-4 : tie.Need-returns-4
 unfolding text
-returns-4 c = (piece-is (ap spaced (sym (c .before .before .before .before .before .match .keys4))) (c .before .before .text-field4 .ensures .0), omega arith)
+returns-4 c = (
+  piece-is (ap spaced (sym (c .before .before .before .before .before .match .keys4)))
+      (c .before .before .text-field4 .ensures .0),
+  omega arith,
+)
 
 same-length-5 : tie.Need-same-length-5
 same-length-5 c =

@@ -1,4 +1,4 @@
--- Seven counts, one after the other, each of at most 22 bytes beside its name. Assumes nothing.
+-- Seven counts, one after the other, each of at most 22 bytes beside its name.
 use mathlib.Core.Path.{_∙_}
 use native.Mathlib.Omega.{arith}
 use Rattle.machine.specs.Text.{text}
@@ -53,8 +53,10 @@ returns c =
     let g3 = g4 .before .before .before .before .before in
     let g2 = g3 .before .before .before .before .before in
     let g1 = g2 .before .before .before .before .before in (
-      counts-lined (g1 .before .before .before .before .args .counts) (g1 .put-count .ensures .0) (g2 .put-count2 .ensures .0)
-          (g3 .put-count3 .ensures .0) (g4 .put-count4 .ensures .0) (g5 .put-count5 .ensures .0) (g6 .put-count6 .ensures .0)
+      counts-lined (g1 .before .before .before .before .args .counts) (g1 .put-count .ensures .0)
+          (g2 .put-count2 .ensures .0)
+          (g3 .put-count3 .ensures .0) (g4 .put-count4 .ensures .0) (g5 .put-count5 .ensures .0)
+          (g6 .put-count6 .ensures .0)
           (g7 .put-count7 .ensures .0),
       omega (
         arith,

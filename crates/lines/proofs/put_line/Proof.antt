@@ -1,4 +1,4 @@
--- Four fields, of at most 10, 3, 4 and 10 characters, with a byte behind each. Assumes nothing.
+-- Four fields, of at most 10, 3, 4 and 10 characters, with a byte behind each.
 use mathlib.Core.Path.{refl}
 use native.Mathlib.Omega.{arith}
 use Rattle.lines.proofs.Lines.{few-digits, record-lined}
@@ -35,14 +35,21 @@ decimal-field-requires-3 c κs =
 
 returns : tie.Need-returns
 returns c =
-    let n = c .before .before .before .before .before .before .before .before .before .before .before .before .before .before .before .before in
+    let n =
+    c .before .before .before .before .before .before .before .before .before .before .before .before .before .before
+    .before .before in
     let a = n .before .before .before .before .before .before .before .args in
     let e = n .before .before .before .before .number-at .result in
     let p = n .before .before .wide64 .result in (
-      record-lined (a .ledger .now) (a .k) (n .before .before .before .before .number-at .ensures) (n .before .before .wide64 .ensures .0) refl
-          (n .number-at2 .ensures) (c .before .before .before .before .before .before .before .before .before .before .before .before .before .before .decimal-field .ensures .0)
-          (c .before .before .before .before .before .before .before .before .before .before .decimal-field2 .ensures .0)
-          (c .before .before .before .before .before .before .put-code .ensures .0) (c .before .before .decimal-field3 .ensures .0),
+      record-lined (a .ledger .now) (a .k) (n .before .before .before .before .number-at .ensures)
+          (n .before .before .wide64 .ensures .0) refl
+          (n .number-at2 .ensures)
+          (c .before .before .before .before .before .before .before .before .before .before .before .before .before
+          .before .decimal-field .ensures .0)
+          (c .before .before .before .before .before .before .before .before .before .before .decimal-field2 .ensures
+          .0)
+          (c .before .before .before .before .before .before .put-code .ensures .0)
+          (c .before .before .decimal-field3 .ensures .0),
       omega (arith, few-digits e p (n .number-at2 .result) (omega arith) (omega arith) (omega arith)),
     )
 

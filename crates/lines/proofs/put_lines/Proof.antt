@@ -1,4 +1,4 @@
--- The loop's invariant: the lines of the records passed are written, of at most 31 bytes each. Assumes nothing.
+-- The loop's invariant: the lines of the records passed are written, of at most 31 bytes each.
 use Prim.Native.Nat.{_≤_, _*_, _-_}
 use mathlib.Core.Path.{_≡_, sym}
 use native.Mathlib.Omega.{arith}
@@ -31,7 +31,8 @@ loop-again c =
     let l = c .before .before .before .before .before in (
       omega arith,
       omega arith,
-      records-more (l .before .before .before .args .ledger .now) (l .loop .k) (l .loop .inv .2) (c .before .before .put-line .ensures .0),
+      records-more (l .before .before .before .args .ledger .now) (l .loop .k) (l .loop .inv .2)
+          (c .before .before .put-line .ensures .0),
     )
 
 same-length : tie.Need-same-length Inv-loop μ-loop

@@ -1,4 +1,4 @@
--- Four fields, of 7, at most 20, 2 and at most 20 characters, with a byte behind each. Assumes nothing.
+-- Four fields, of 7, at most 20, 2 and at most 20 characters, with a byte behind each.
 use native.Mathlib.Omega.{arith}
 use Rattle.machine.specs.Text.{text}
 use Rattle.machine.proofs.Text.{decimal-64}
@@ -10,16 +10,31 @@ decimal-field-requires : tie.Need-decimal-field-requires
 decimal-field-requires c κs = omega (arith, decimal-64 (c .number-of .result) (omega arith))
 
 text-field-requires-2 : tie.Need-text-field-requires-2
-text-field-requires-2 c κs = omega (arith, decimal-64 (c .before .before .before .before .before .number-of .result) (omega arith))
+text-field-requires-2 c κs =
+    omega (arith, decimal-64 (c .before .before .before .before .before .number-of .result) (omega arith))
 
 decimal-field-requires-2 : tie.Need-decimal-field-requires-2
-decimal-field-requires-2 c κs = omega (arith, decimal-64 (c .place-of .result) (omega arith), decimal-64 (c .before .before .before .before .before .before .before .before .before .before .number-of .result) (omega arith))
+decimal-field-requires-2 c κs =
+    omega (
+      arith,
+      decimal-64 (c .place-of .result) (omega arith),
+      decimal-64
+          (c .before .before .before .before .before .before .before .before .before .before .number-of .result)
+          (omega arith),
+    )
 
 returns : tie.Need-returns
 unfolding text
 returns c =
-    refusal-lined (c .before .before .before .before .before .before .before .before .before .before .before .before .before .before .before .before .before .before .before .before .before .args .refusal) (c .before .before .before .before .before .before .before .before .before .before .before .before .before .number-of .ensures) (c .before .before .before .place-of .ensures)
-    (c .before .before .before .before .before .before .before .before .before .before .before .before .before .before .before .before .before .text-field .ensures .0) (c .before .before .before .before .before .before .before .before .before .before .before .before .decimal-field .ensures .0) (c .before .before .before .before .before .before .before .text-field2 .ensures .0)
+    refusal-lined
+    (c .before .before .before .before .before .before .before .before .before .before .before .before .before .before
+    .before .before .before .before .before .before .before .args .refusal)
+    (c .before .before .before .before .before .before .before .before .before .before .before .before .before
+    .number-of .ensures) (c .before .before .before .place-of .ensures)
+    (c .before .before .before .before .before .before .before .before .before .before .before .before .before .before
+    .before .before .before .text-field .ensures .0)
+    (c .before .before .before .before .before .before .before .before .before .before .before .before .decimal-field
+    .ensures .0) (c .before .before .before .before .before .before .before .text-field2 .ensures .0)
     (c .before .before .decimal-field2 .ensures .0)
 
 pub put-refusal-spec : {M : Type 1} → statement M

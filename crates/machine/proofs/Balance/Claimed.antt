@@ -1,6 +1,6 @@
 -- Clause B at the process of an event: a message is wanted or its sender still has it. No part of a put but a clear
 -- lowers a marker or a count; the clear for full meets an empty envelope; and a put that filled it ends only where it
--- left, which it does only wanted. Assumes nothing.
+-- left, which it does only wanted.
 use Prim.Native.Nat.{ℕ, suc, _+_, _≤_}
 use mathlib.Core.Path.{_≡_, refl, sym, ap, _∙_}
 use mathlib.Core.Bool.{Bool, true, false, not, _&&_, _||_, Bool·beq, and-false, true≢false, false≢true}
@@ -15,13 +15,14 @@ use Rattle.machine.specs.declared.Outcome.the-variants.{Got}
 use Rattle.machine.specs.Fields.{Status, full, empty, for, either, count, withCount}
 use Rattle.machine.specs.Stages.{told, filled}
 use Rattle.machine.specs.Events.{idle, ask, pass, markFor, mark, unmark, clear, positive, wanted, leave}
-use Rattle.machine.specs.Events.{heeding, forward, ends, stroll, wait, endPut}
-use Rattle.machine.specs.Events.{startPut, startGet, work, signal, receive, hear, put, react}
-use Rattle.machine.proofs.Lists.{and-first, or-second}
-use Rattle.machine.proofs.Ways.{by-test, choice, by-stage, every-code}
-use Rattle.machine.proofs.Sums.{marksFor}
-use Rattle.machine.proofs.Owed.{Owed, begun, begun-owed, ask-owed, pass-owed, forward-owed, clear-owed}
-use Rattle.machine.proofs.Settled.{Fits, told-each, at-stage, had-at, other-status, waitsFor, mark-waiting}
+use Rattle.machine.specs.Events.{setMarkers, forward, ends, relay, wait, endPut}
+use Rattle.machine.specs.Events.{startPut, startGet, work, signal, receive, takeRequest, put, react}
+use Rattle.machine.proofs.Laws.Lists.{and-first, or-second}
+use Rattle.machine.proofs.Soundness.Ways.{by-test, choice, by-stage, every-code}
+use Rattle.machine.proofs.Soundness.Sums.{marksFor}
+use Rattle.machine.proofs.Soundness.Owed.{Owed, begun, begun-owed, ask-owed, pass-owed, forward-owed, clear-owed}
+use Rattle.machine.proofs.Soundness.Settled.{Fits, told-each, at-stage, had-at, other-status, waitsFor}
+use Rattle.machine.proofs.Soundness.Settled.{mark-waiting}
 use Rattle.machine.proofs.Balance.Clauses.{unclaimed}
 use Rattle.machine.proofs.Balance.Pairs.{either-for}
 use Rattle.machine.proofs.Balance.Stages.{mayFor}
@@ -77,18 +78,18 @@ mark-stays r =
     (mark-wanted (r .envelope .marker) (r .envelope .marked) (not (r .envelope .full)) (r .envelope .full)))
 
 forward-stays : (r : Reaction) → StaysWanted (r .envelope) (forward r .envelope)
-unfolding forward heeding leave wanted
+unfolding forward setMarkers leave wanted
 forward-stays r =
-    choice (λ (t : Reaction). StaysWanted (r .envelope) (t .envelope)) (wanted (heeding r .envelope)) _ _ fewer fewer
+    choice (λ (t : Reaction). StaysWanted (r .envelope) (t .envelope)) (wanted (setMarkers r .envelope)) _ _ fewer fewer
   where
-    fewer : StaysWanted (r .envelope) (heeding r .envelope)
+    fewer : StaysWanted (r .envelope) (setMarkers r .envelope)
     fewer = less-wanted (r .envelope .full) _ _ (heed-wanted (r .envelope .marker) _ _ (r .envelope .full))
 
 -- where a forward lets it leave, it is wanted
 forward-wanted : (r : Reaction) → r .leaves ≡ false → forward r .leaves ≡ true → wanted (forward r .envelope) ≡ true
-unfolding forward heeding leave
+unfolding forward setMarkers leave
 forward-wanted r here =
-    by-test (λ (t : Reaction). t .leaves ≡ true → wanted (t .envelope) ≡ true) (wanted (heeding r .envelope)) _ _
+    by-test (λ (t : Reaction). t .leaves ≡ true → wanted (t .envelope) ≡ true) (wanted (setMarkers r .envelope)) _ _
     (λ is-wanted _. is-wanted) (λ _ left. absurd (true≢false (sym left ∙ here)))
 
 -- ---- a put, by the stage that it finds
@@ -124,9 +125,9 @@ module _ (e : Envelope) (p : Process) (fits : Fits e p) where
   same-stage : (r : Reaction) → r .process .stage ≡ p .stage → StaysWanted e (r .envelope) → Claims e p r
   same-stage r same stays claim outside = (stays claim, ap filled (sym same) ∙ outside)
 
-  stroll-claims : Claims e p (stroll start)
-  unfolding stroll
-  stroll-claims =
+  relay-claims : Claims e p (relay start)
+  unfolding relay
+  relay-claims =
       by-test (Claims e p) (p .have) _ _
       (λ had. same-stage (forward start) (forward-owed e p start had start-owed .stage-same) (forward-stays start))
       (λ _. same-stage (pass start) (pass-owed e p start start-owed .stage-same)
@@ -188,7 +189,7 @@ module _ (e : Envelope) (p : Process) (fits : Fits e p) where
     unfolding put
     put-claims =
         by-test (Claims e p) (p .news) _ _
-        (λ _. by-stage (Claims e p) (p .stage) start (λ _. stroll-claims) (wait-claims empty) (wait-claims full)
+        (λ _. by-stage (Claims e p) (p .stage) start (λ _. relay-claims) (wait-claims empty) (wait-claims full)
         send-claims get-claims (λ _. unmoved e p))
         (λ _. unmoved e p)
 
@@ -230,14 +231,14 @@ module _ (e : Envelope) (p : Process) where
   unfolding receive
   receive-claims = choice (Claims e p) (p .arriving) _ _ (unmoved e p) (unmoved e p)
 
-  hear-claims : (s : Status) → Claims e p (hear s e p)
-  unfolding hear
-  hear-claims s = choice (Claims e p) (for (p .link) s) _ _ (unmoved e p) (unmoved e p)
+  request-claims : (s : Status) → Claims e p (takeRequest s e p)
+  unfolding takeRequest
+  request-claims s = choice (Claims e p) (for (p .link) s) _ _ (unmoved e p) (unmoved e p)
 
 -- any event, by its code
 pub react-claims : (e : Envelope) (p : Process) → Fits e p → ((s : Status) → marksFor s p ≤ count (e .marked) s)
     → (code m : ℕ) → Claims e p (react code m e p)
 react-claims e p fits own code m =
     every-code (Claims e p) code m e p (start-put-claims e p m) (start-get-claims e p) (work-claims e p)
-    (signal-claims e p) (receive-claims e p) (hear-claims e p) (put-claims e p fits own)
+    (signal-claims e p) (receive-claims e p) (request-claims e p) (put-claims e p fits own)
     (unmoved e p)

@@ -1,6 +1,5 @@
 -- The invariant behind the third demand, clause by clause. Each clause is kept by every event on its own, given that
 -- the state fits; they meet only in the standstill. Full and empty are mirror images: each is said over the status.
--- Assumes nothing.
 use Prim.Native.Nat.{ℕ, _+_, _≤_, _<_}
 use mathlib.Core.Path.{_≡_}
 use mathlib.Core.Bool.{Bool, true, false, not, _&&_, _||_}
@@ -15,14 +14,14 @@ use Rattle.machine.specs.Image.{State}
 use Rattle.machine.specs.Stages.{within, sending, filled, receiving}
 use Rattle.machine.specs.Events.{wanted, processAt}
 use Rattle.machine.specs.Balance.{Totals, inStages, ownMessage}
-use Rattle.machine.proofs.Settled.{waitsFor}
-use Rattle.machine.proofs.Facts.{StateFacts}
+use Rattle.machine.proofs.Soundness.Settled.{waitsFor}
+use Rattle.machine.proofs.Soundness.Facts.{StateFacts}
 
 -- ---- stages
 
 -- stages that no event but a put moves on: 0, 2, 5, 7, 10
-abbrev pub restful : ℕ → Bool
-restful stage = eqb stage 0 || eqb stage 2 || eqb stage 5 || eqb stage 7 || eqb stage 10
+abbrev pub resting : ℕ → Bool
+resting stage = eqb stage 0 || eqb stage 2 || eqb stage 5 || eqb stage 7 || eqb stage 10
 
 -- a message is taken, and its get hasn't ended
 abbrev pub emptied : ℕ → Bool
@@ -44,7 +43,7 @@ Rests e p = RestsOf (p .stage) (e .full) (wanted e) (for (p .asked) (e .full))
 
 -- so it is at a process that has the envelope and no news
 abbrev pub AtRest : Envelope → Process → Type 0
-AtRest e p = p .have ≡ true → p .news ≡ false → restful (p .stage) ≡ true → Rests e p
+AtRest e p = p .have ≡ true → p .news ≡ false → resting (p .stage) ≡ true → Rests e p
 
 -- ---- B. A message is wanted or its sender still has it
 

@@ -1,7 +1,7 @@
 -- What one event owes for the counts and the messages. An event takes its process from one stage to another, and at the
 -- two stages the numbers compute: a start enters its stages, a fill and a take the stages that follow them, an end
 -- leaves both. Main fills the envelope only when it is empty and takes only when it is full; a put keeps the message,
--- and its stage and outcome until it turns or ends. Assumes nothing.
+-- and its stage and outcome until it turns or ends.
 use Prim.Native.Nat.{ℕ, _+_}
 use mathlib.Core.Path.{_≡_, refl, sym, ap, _∙_}
 use mathlib.Core.Bool.{Bool, true, false, not, _&&_, Bool·beq, Bool·not-not, and-false}
@@ -19,13 +19,13 @@ use Rattle.machine.specs.Fields.{Status, full, empty, for}
 use Rattle.machine.specs.Stages.{told, sending, filled, receiving}
 use Rattle.machine.specs.Run.{outcomeNumber}
 use Rattle.machine.specs.Balance.{filledBy, takenBy, ownMessage}
-use Rattle.machine.specs.Events.{idle, ask, pass, markFor, mark, unmark, clear, wanted, leave, heeding}
-use Rattle.machine.specs.Events.{forward, ends, stroll, wait, endPut}
-use Rattle.machine.specs.Events.{startPut, startGet, work, signal, receive, hear, put, react}
-use Rattle.machine.proofs.Lists.{and-first, and-second}
-use Rattle.machine.proofs.Ways.{choice, by-test, pass-keeps, by-stage, by-code}
-use Rattle.machine.proofs.Owed.{begun}
-use Rattle.machine.proofs.Settled.{Fits, told-each, at-stage}
+use Rattle.machine.specs.Events.{idle, ask, pass, markFor, mark, unmark, clear, wanted, leave, setMarkers}
+use Rattle.machine.specs.Events.{forward, ends, relay, wait, endPut}
+use Rattle.machine.specs.Events.{startPut, startGet, work, signal, receive, takeRequest, put, react}
+use Rattle.machine.proofs.Laws.Lists.{and-first, and-second}
+use Rattle.machine.proofs.Soundness.Ways.{choice, by-test, pass-keeps, by-stage, by-code}
+use Rattle.machine.proofs.Soundness.Owed.{begun}
+use Rattle.machine.proofs.Soundness.Settled.{Fits, told-each, at-stage}
 use Rattle.machine.proofs.Balance.Clauses.{emptied}
 
 -- ---- the counts at two stages
@@ -112,8 +112,8 @@ module _ (e : Envelope) (p : Process) (fits : Fits e p) (m : ℕ) where
   receives = choice (Tallies 4) (p .arriving) _ _ (counts refl refl refl refl, unfilled) (nothing 4)
 
   -- codes 5 and 6
-  hears : (code : ℕ) (s : Status) → eqb code 0 ≡ false → eqb code 1 ≡ false → Tallies code (hear s e p)
-  unfolding hear
+  hears : (code : ℕ) (s : Status) → eqb code 0 ≡ false → eqb code 1 ≡ false → Tallies code (takeRequest s e p)
+  unfolding takeRequest
   hears code s not-0 not-1 =
       choice (Tallies code) (for (p .link) s) _ _ (counts (rw not-0) (rw not-1) refl refl, unfilled) (nothing code)
 
@@ -137,8 +137,8 @@ module _ (e : Envelope) (p : Process) (fits : Fits e p) (m : ℕ) where
   clear-under s r h = choice Under (for (r .process .mark) s) _ _ h h
 
   forward-under : (r : Reaction) → Under r → Under (forward r)
-  unfolding forward heeding leave
-  forward-under r h = choice Under (wanted (heeding r .envelope)) _ _ h h
+  unfolding forward setMarkers leave
+  forward-under r h = choice Under (wanted (setMarkers r .envelope)) _ _ h h
 
   -- so it counts nothing
   under : (r : Reaction) → Under r → Tallies 7 r
@@ -148,9 +148,9 @@ module _ (e : Envelope) (p : Process) (fits : Fits e p) (m : ℕ) where
   begins : Under (begun e p)
   begins = (refl, refl, refl)
 
-  strolls : Tallies 7 (stroll (begun e p))
-  unfolding stroll
-  strolls =
+  relays : Tallies 7 (relay (begun e p))
+  unfolding relay
+  relays =
       choice (Tallies 7) (p .have) _ _ (under (forward (begun e p)) (forward-under (begun e p) begins))
       (under (pass (begun e p)) (pass-keeps Under ask-under (begun e p) begins))
 
@@ -184,7 +184,7 @@ module _ (e : Envelope) (p : Process) (fits : Fits e p) (m : ℕ) where
   unfolding put
   puts =
       choice (Tallies 7) (p .news) _ _
-      (by-stage (Tallies 7) (p .stage) (begun e p) (λ _. strolls)
+      (by-stage (Tallies 7) (p .stage) (begun e p) (λ _. relays)
       (λ here. waits empty 3 (rw here (counts refl refl refl refl)))
       (λ here. waits full 8 (rw here (counts refl refl refl refl))) sends gets (λ _. under (begun e p) begins))
       (nothing 7)

@@ -1,6 +1,6 @@
 -- What one event owes for the requests that lie at the left. A process comes to await a status only where it sends the
 -- request: asked itself is set together with the link, and goes off with the envelope, which a get brings back. And a
--- request from the right stays where it is, on the link or heard, until the envelope leaves. Assumes nothing.
+-- request from the right stays where it is, on the link or heard, until the envelope leaves.
 use Prim.Native.Nat.{ℕ}
 use mathlib.Core.Path.{_≡_, sym, _∙_}
 use mathlib.Core.Bool.{true, false, not, _&&_, true≢false, false≢true}
@@ -12,11 +12,12 @@ use Rattle.machine.specs.declared.Outcome.{Outcome}
 use Rattle.machine.specs.declared.Reaction.{Reaction}
 use Rattle.machine.specs.Fields.{Status, for}
 use Rattle.machine.specs.Stages.{told}
-use Rattle.machine.specs.Events.{idle, ask, markFor, mark, unmark, clear, wanted, leave, heeding, forward, ends}
-use Rattle.machine.specs.Events.{startPut, startGet, work, signal, receive, hear, put, react}
-use Rattle.machine.proofs.Lists.{and-first, and-second}
-use Rattle.machine.proofs.Ways.{choice, every-code}
-use Rattle.machine.proofs.Parts.{put-keeps}
+use Rattle.machine.specs.Events.{idle, ask, markFor, mark, unmark, clear, wanted, leave, setMarkers, forward}
+use Rattle.machine.specs.Events.{ends}
+use Rattle.machine.specs.Events.{startPut, startGet, work, signal, receive, takeRequest, put, react}
+use Rattle.machine.proofs.Laws.Lists.{and-first, and-second}
+use Rattle.machine.proofs.Soundness.Ways.{choice, every-code}
+use Rattle.machine.proofs.Soundness.Parts.{put-keeps}
 use Rattle.machine.proofs.Balance.Pairs.{none-for, sent-along, heard}
 use Rattle.machine.proofs.Balance.Clauses.{awaits, holdsRequest}
 
@@ -64,8 +65,8 @@ module _ (code m : ℕ) (e : Envelope) (p : Process) (s : Status) where
   )
 
   forward-hands : (r : Reaction) → Hands r → Hands (forward r)
-  unfolding forward heeding
-  forward-hands r h = choice Hands (wanted (heeding r .envelope)) _ _ (leave-hands (heeding r)) h
+  unfolding forward setMarkers
+  forward-hands r h = choice Hands (wanted (setMarkers r .envelope)) _ _ (leave-hands (setMarkers r)) h
 
   ends-hands : (o : Outcome) (r : Reaction) → Hands r → Hands (ends o r)
   unfolding ends
@@ -106,14 +107,14 @@ module _ (code m : ℕ) (e : Envelope) (p : Process) (s : Status) where
       (λ on. absurd (false≢true (and-second noted _ (and-first (noted && _) _ on))), kept .1) kept
 
   -- a request goes from the link to what was heard
-  hear-hands : (t : Status) → Hands (hear t e p)
-  unfolding hear
-  hear-hands t =
+  request-hands : (t : Status) → Hands (takeRequest t e p)
+  unfolding takeRequest
+  request-hands t =
       choice Hands (for (p .link) t) _ _ (inl, λ held stays. heard t s (p .asked) (p .link) held) kept
 
   react-hands : Hands (react code m e p)
   react-hands =
-      every-code Hands code m e p start-put start-get work-hands signal-hands receive-hands hear-hands put-hands kept
+      every-code Hands code m e p start-put start-get work-hands signal-hands receive-hands request-hands put-hands kept
 
   -- ---- what is owed
 

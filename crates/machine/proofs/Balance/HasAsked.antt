@@ -1,7 +1,7 @@
 -- Who needs s and has rested has asked for it, after any event at its own process. A start comes to a stage that waits
 -- for nothing; main works only with the envelope; the get thread leaves news, or the envelope. A put without the
 -- envelope passes on what it was asked, and asks for what it waits for; with it, the envelope stays, or it leaves and
--- takes every asked bit along, from a stage that waits for nothing or is marked for what it waits for. Assumes nothing.
+-- takes every asked bit along, from a stage that waits for nothing or is marked for what it waits for.
 use Prim.Native.Nat.{ℕ}
 use mathlib.Core.Path.{_≡_, refl, sym, ap, _∙_}
 use mathlib.Core.Bool.{Bool, true, false, not, _||_, Bool·beq, true≢false}
@@ -16,13 +16,13 @@ use Rattle.machine.specs.declared.Reaction.{Reaction}
 use Rattle.machine.specs.Lists.{every}
 use Rattle.machine.specs.Fields.{Status, full, empty, for, withStage}
 use Rattle.machine.specs.Stages.{plain, told}
-use Rattle.machine.specs.Events.{ask, passFor, pass, markFor, mark, unmark, clear, wanted, leave, heeding}
-use Rattle.machine.specs.Events.{forward, ends, stroll, wait, endPut}
-use Rattle.machine.specs.Events.{startPut, startGet, work, signal, receive, hear, put, react}
-use Rattle.machine.proofs.Lists.{and-first, and-second, same-bool}
-use Rattle.machine.proofs.Ways.{pass-for-keeps, pass-keeps, by-test, moving, by-stage, every-code}
-use Rattle.machine.proofs.Owed.{begun}
-use Rattle.machine.proofs.Settled.{Fits, either-way, other-status, needs, had-at, waitsFor}
+use Rattle.machine.specs.Events.{ask, passFor, pass, markFor, mark, unmark, clear, wanted, leave, setMarkers}
+use Rattle.machine.specs.Events.{forward, ends, relay, wait, endPut}
+use Rattle.machine.specs.Events.{startPut, startGet, work, signal, receive, takeRequest, put, react}
+use Rattle.machine.proofs.Laws.Lists.{and-first, and-second, same-bool}
+use Rattle.machine.proofs.Soundness.Ways.{pass-for-keeps, pass-keeps, by-test, moving, by-stage, every-code}
+use Rattle.machine.proofs.Soundness.Owed.{begun}
+use Rattle.machine.proofs.Soundness.Settled.{Fits, either-way, other-status, needs, had-at, waitsFor}
 use Rattle.machine.proofs.Balance.Pairs.{none-for, set-on, set-keeps}
 use Rattle.machine.proofs.Balance.Clauses.{HasAsked}
 use Rattle.machine.proofs.Balance.Stages.{at-stages, waits-same}
@@ -128,11 +128,11 @@ leave-unasked t r = none-for t
 forward-asked : (t : Status) (r : Reaction) → r .process .have ≡ true
     → (eqb (r .process .stage) (waitsFor t) ≡ true → for (r .process .mark) t ≡ true)
     → HasAsked t (forward r .process)
-unfolding forward heeding leave
+unfolding forward setMarkers leave
 forward-asked t r had marked =
-    by-test (λ (x : Reaction). HasAsked t (x .process)) (wanted (heeding r .envelope)) _ _
-    (λ _ away rested. either-way (for (leave (heeding r) .process .asked) t) _
-    (λ on. absurd (true≢false (sym on ∙ leave-unasked t (heeding r))))
+    by-test (λ (x : Reaction). HasAsked t (x .process)) (wanted (setMarkers r .envelope)) _ _
+    (λ _ away rested. either-way (for (leave (setMarkers r) .process .asked) t) _
+    (λ on. absurd (true≢false (sym on ∙ leave-unasked t (setMarkers r))))
     (λ waits.
     let here = eqb (r .process .stage) (waitsFor t) in
     let unmarked = not (for (r .process .mark) t) in
@@ -174,9 +174,9 @@ module _ (e : Envelope) (p : Process) (fits : Fits e p) (code m : ℕ) (t : Stat
   -- ---- put
 
   -- stages 0, 1 and 6
-  stroll-asked : plain (p .stage) ≡ true → Asked (stroll (begun e p))
-  unfolding stroll
-  stroll-asked is-plain =
+  relay-asked : plain (p .stage) ≡ true → Asked (relay (begun e p))
+  unfolding relay
+  relay-asked is-plain =
       let is-free : free (p .stage) ≡ true = rw is-plain in
       by-test Asked (p .have) _ _ (λ had. forward-asked t (begun e p) had (free-waits (p .stage) t is-free))
       (λ _. pass-asked t (begun e p) (free-waits (p .stage) t is-free))
@@ -213,7 +213,7 @@ module _ (e : Envelope) (p : Process) (fits : Fits e p) (code m : ℕ) (t : Stat
   unfolding put
   put-asked =
       by-test Asked (p .news) _ _
-      (λ _. by-stage Asked (p .stage) (begun e p) stroll-asked (wait-asked empty 3) (wait-asked full 8) sends-asked
+      (λ _. by-stage Asked (p .stage) (begun e p) relay-asked (wait-asked empty 3) (wait-asked full 8) sends-asked
       gets-asked calm-asked)
       (λ _. before)
 
@@ -243,11 +243,12 @@ module _ (e : Envelope) (p : Process) (fits : Fits e p) (code m : ℕ) (t : Stat
   unfolding receive
   receive-asked = by-test Asked (p .arriving) _ _ (λ _ away. absurd (true≢false away)) (λ _. before)
 
-  hear-asked : (s : Status) → Asked (hear s e p)
-  unfolding hear
-  hear-asked s = by-test Asked (for (p .link) s) _ _ (λ _ away rested. absurd (true≢false rested)) (λ _. before)
+  request-asked : (s : Status) → Asked (takeRequest s e p)
+  unfolding takeRequest
+  request-asked s = by-test Asked (for (p .link) s) _ _ (λ _ away rested. absurd (true≢false rested)) (λ _. before)
 
   -- any event, by its code
   pub react-asked : HasAsked t (react code m e p .process)
   react-asked =
-      every-code Asked code m e p start-put start-get work-asked signal-asked receive-asked hear-asked put-asked before
+      every-code Asked code m e p start-put start-get work-asked signal-asked receive-asked request-asked put-asked
+      before

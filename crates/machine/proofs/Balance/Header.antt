@@ -1,5 +1,5 @@
 -- The envelope changes only at the process that has it: without it an event at most asks. Stages 3, 5, 8 and 10, which
--- change it, have it. Assumes nothing.
+-- change it, have it.
 use Prim.Native.Nat.{ℕ}
 use mathlib.Core.Path.{_≡_, refl, _∙_}
 use mathlib.Core.Bool.{true}
@@ -11,11 +11,11 @@ use Rattle.machine.specs.declared.Process.{Process}
 use Rattle.machine.specs.declared.Reaction.{Reaction}
 use Rattle.machine.specs.Fields.{Status, full, empty, for}
 use Rattle.machine.specs.Stages.{told}
-use Rattle.machine.specs.Events.{ask, pass, stroll, wait}
-use Rattle.machine.specs.Events.{startPut, startGet, work, signal, receive, hear, put, react}
-use Rattle.machine.proofs.Ways.{by-test, choice, pass-keeps, by-stage, every-code}
-use Rattle.machine.proofs.Owed.{begun}
-use Rattle.machine.proofs.Settled.{Fits, had-at}
+use Rattle.machine.specs.Events.{ask, pass, relay, wait}
+use Rattle.machine.specs.Events.{startPut, startGet, work, signal, receive, takeRequest, put, react}
+use Rattle.machine.proofs.Soundness.Ways.{by-test, choice, pass-keeps, by-stage, every-code}
+use Rattle.machine.proofs.Soundness.Owed.{begun}
+use Rattle.machine.proofs.Soundness.Settled.{Fits, had-at}
 
 -- ---- asking leaves the envelope alone
 
@@ -37,9 +37,9 @@ abbrev pub OnlyHolder : Envelope → Process → Reaction → Type 0
 OnlyHolder e p r = (p .have ≡ true) ⊎ (r .envelope ≡ e)
 
 module _ (e : Envelope) (p : Process) (fits : Fits e p) where
-  stroll-only : OnlyHolder e p (stroll (begun e p))
-  unfolding stroll
-  stroll-only = by-test (OnlyHolder e p) (p .have) _ _ inl (λ _. inr (pass-alone (begun e p)))
+  relay-only : OnlyHolder e p (relay (begun e p))
+  unfolding relay
+  relay-only = by-test (OnlyHolder e p) (p .have) _ _ inl (λ _. inr (pass-alone (begun e p)))
 
   wait-only : (s : Status) (next : ℕ) → OnlyHolder e p (wait s next (begun e p))
   unfolding wait
@@ -49,7 +49,7 @@ module _ (e : Envelope) (p : Process) (fits : Fits e p) where
   unfolding put
   put-only =
       by-test (OnlyHolder e p) (p .news) _ _
-      (λ _. by-stage (OnlyHolder e p) (p .stage) (begun e p) (λ _. stroll-only) (λ _. wait-only empty 3)
+      (λ _. by-stage (OnlyHolder e p) (p .stage) (begun e p) (λ _. relay-only) (λ _. wait-only empty 3)
       (λ _. wait-only full 8) (λ here. inl (had-at e p fits 5 here refl)) (λ here. inl (had-at e p fits 10 here refl))
       (λ _. inr refl))
       (λ _. inr refl)
@@ -78,11 +78,11 @@ module _ (e : Envelope) (p : Process) (fits : Fits e p) where
   unfolding receive
   receive-only = choice (OnlyHolder e p) (p .arriving) _ _ (inr refl) (inr refl)
 
-  hear-only : (s : Status) → OnlyHolder e p (hear s e p)
-  unfolding hear
-  hear-only s = choice (OnlyHolder e p) (for (p .link) s) _ _ (inr refl) (inr refl)
+  request-only : (s : Status) → OnlyHolder e p (takeRequest s e p)
+  unfolding takeRequest
+  request-only s = choice (OnlyHolder e p) (for (p .link) s) _ _ (inr refl) (inr refl)
 
   pub react-only-holder : (code m : ℕ) → OnlyHolder e p (react code m e p)
   react-only-holder code m =
       every-code (OnlyHolder e p) code m e p (start-put-only m) start-get-only work-only signal-only receive-only
-      hear-only put-only (inr refl)
+      request-only put-only (inr refl)

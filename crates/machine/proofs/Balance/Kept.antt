@@ -1,5 +1,5 @@
 -- One event keeps the invariant, clause by clause, by what it owes at its own process and what is kept on the ring. So
--- does a list of events. Assumes nothing.
+-- does a list of events.
 use Prim.Native.Nat.{ℕ, _+_, _≤_, _<_}
 use mathlib.Core.Path.{_≡_, refl, sym, ap, _∙_}
 use mathlib.Core.Bool.{Bool, true}
@@ -22,12 +22,12 @@ use Rattle.machine.specs.Events.{Event, react, processAt, place, reactio
 use Rattle.machine.specs.Run.{counted, countsFrom, after}
 use Rattle.machine.specs.Balance.{filledBy, takenBy, filledFrom, takenFrom, ownMessage, Totals, totalsOf, onRing}
 use Rattle.machine.specs.Balance.{inStages}
-use Rattle.machine.proofs.Lists.{and-first, and-second}
-use Rattle.machine.proofs.Sums.{marksFor, mark-counted}
-use Rattle.machine.proofs.Settled.{Fits}
-use Rattle.machine.proofs.Facts.{fits-at}
-use Rattle.machine.proofs.Placed.{length-placed, sum-placed}
-use Rattle.machine.proofs.Kept.{length-applied, facts-kept}
+use Rattle.machine.proofs.Laws.Lists.{and-first, and-second}
+use Rattle.machine.proofs.Soundness.Sums.{marksFor, mark-counted}
+use Rattle.machine.proofs.Soundness.Settled.{Fits}
+use Rattle.machine.proofs.Soundness.Facts.{fits-at}
+use Rattle.machine.proofs.Soundness.Placed.{length-placed, sum-placed}
+use Rattle.machine.proofs.Soundness.Kept.{length-applied, facts-kept}
 use Rattle.machine.proofs.Balance.Clauses.{emptied, Counted, Invariant}
 use Rattle.machine.proofs.Balance.Header.{react-only-holder}
 use Rattle.machine.proofs.Balance.Rest.{react-rests}

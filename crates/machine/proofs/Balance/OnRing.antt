@@ -1,6 +1,6 @@
 -- What a reaction placed on the ring keeps of each clause, given what it owes at its own process. At the others nothing
 -- that a clause reads is changed, but for requests that come to the left and the envelope that comes to the right, and
--- both only help. Assumes nothing.
+-- both only help.
 use Prim.Native.Nat.{ℕ, _+_, _≤_, _<_}
 use mathlib.Core.Path.{_≡_, refl, sym, ap, subst, _∙_}
 use mathlib.Core.Bool.{Bool, true, false, not, cond, _&&_, _||_, or-true, false≢true}
@@ -21,13 +21,13 @@ use Rattle.machine.specs.Stages.{filled}
 use Rattle.machine.specs.Sound.{places}
 use Rattle.machine.specs.Events.{requested, arrived, processAt, place}
 use Rattle.machine.specs.Balance.{inStages}
-use Rattle.machine.proofs.Ring.{left-other, right-left}
-use Rattle.machine.proofs.Sums.{part-le, two-le, flagsSet}
-use Rattle.machine.proofs.Placed.{length-placed, sum-placed}
+use Rattle.machine.proofs.Laws.Ring.{left-other, right-left}
+use Rattle.machine.proofs.Soundness.Sums.{part-le, two-le, flagsSet}
+use Rattle.machine.proofs.Soundness.Placed.{length-placed, sum-placed}
 use Rattle.machine.proofs.Balance.Clauses.{AtRest, unclaimed, HasAsked, awaits, holdsRequest}
 use Rattle.machine.proofs.Balance.Clauses.{Handed}
 use Rattle.machine.proofs.Balance.Pairs.{either-for}
-use Rattle.machine.proofs.Around.{beside, placed-self, placed-other}
+use Rattle.machine.proofs.Soundness.Around.{beside, placed-self, placed-other}
 use Rattle.machine.proofs.Balance.Header.{OnlyHolder}
 use Rattle.machine.proofs.Balance.Claimed.{Claims}
 

@@ -1,5 +1,5 @@
 -- Laws of a bit for each status: what becomes of the bit for s where that for t is set. Each case of the two statuses
--- computes. Assumes nothing.
+-- computes.
 use mathlib.Core.Path.{_≡_, refl}
 use mathlib.Core.Bool.{Bool, true, false, _&&_, _||_}
 use mathlib.Core.Logic.{_⊎_, inr}

@@ -1,6 +1,6 @@
 -- Clause A at the process of an event: the holder at rest. A forward that keeps the envelope found it unwanted, so its
 -- right had not asked for it either, since that would have set the marker; news are set by every event that could end
--- the rest, and cleared only by a put. Assumes nothing.
+-- the rest, and cleared only by a put.
 use Prim.Native.Nat.{ℕ, _≤_}
 use mathlib.Core.Path.{_≡_, refl, sym, subst, _∙_}
 use mathlib.Core.Bool.{Bool, true, false, Bool·beq, true≢false, false≢true}
@@ -11,15 +11,15 @@ use Rattle.machine.specs.declared.Reaction.{Reaction}
 use Rattle.machine.specs.declared.Outcome.the-variants.{Got}
 use Rattle.machine.specs.Fields.{Status, full, empty, for, count}
 use Rattle.machine.specs.Stages.{plain, told}
-use Rattle.machine.specs.Events.{ask, pass, mark, clear, wanted, leave, heeding, forward, ends, stroll, wait}
-use Rattle.machine.specs.Events.{endPut, startPut, startGet, work, signal, receive, hear, put, react}
-use Rattle.machine.proofs.Lists.{or-first, or-second}
-use Rattle.machine.proofs.Ways.{by-test, by-stage, every-code}
-use Rattle.machine.proofs.Sums.{marksFor}
-use Rattle.machine.proofs.Owed.{Owed, begun, begun-owed, ask-owed, pass-owed, forward-owed, clear-owed}
-use Rattle.machine.proofs.Owed.{off-stays, off-left}
-use Rattle.machine.proofs.Settled.{Fits, had-at, plain-each, other-status, waitsFor, mark-waiting}
-use Rattle.machine.proofs.Balance.Clauses.{restful, RestsOf, AtRest}
+use Rattle.machine.specs.Events.{ask, pass, mark, clear, wanted, leave, setMarkers, forward, ends, relay, wait}
+use Rattle.machine.specs.Events.{endPut, startPut, startGet, work, signal, receive, takeRequest, put, react}
+use Rattle.machine.proofs.Laws.Lists.{or-first, or-second}
+use Rattle.machine.proofs.Soundness.Ways.{by-test, by-stage, every-code}
+use Rattle.machine.proofs.Soundness.Sums.{marksFor}
+use Rattle.machine.proofs.Soundness.Owed.{Owed, begun, begun-owed, ask-owed, pass-owed, forward-owed, clear-owed}
+use Rattle.machine.proofs.Soundness.Owed.{off-stays, off-left}
+use Rattle.machine.proofs.Soundness.Settled.{Fits, had-at, plain-each, other-status, waitsFor, mark-waiting}
+use Rattle.machine.proofs.Balance.Clauses.{resting, RestsOf, AtRest}
 use Rattle.machine.proofs.Balance.Pairs.{either-for}
 use Rattle.machine.proofs.Balance.Stages.{waits-for-none, waits-same, mayFor, calm-restless}
 
@@ -39,24 +39,25 @@ RestsAt stage r = r .process .have ≡ true → RestsWith stage r
 -- ---- a forward
 
 -- what the right asked for sets its marker
-asked-heeded : (s : Status) (r : Reaction) → for (heeding r .envelope .marker) s ≡ false
+asked-heeded : (s : Status) (r : Reaction) → for (setMarkers r .envelope .marker) s ≡ false
     → for (r .process .asked) s ≡ false
-unfolding heeding
+unfolding setMarkers
 asked-heeded s r off =
     or-second (for (r .envelope .marker) s) (for (r .process .asked) s)
     (sym (either-for (r .envelope .marker) (r .process .asked) s) ∙ off)
 
 forward-rests : (r : Reaction) (stage : ℕ) → eqb stage 10 ≡ false → eqb stage (waitsFor (r .envelope .full)) ≡ false
     → RestsAt stage (forward r)
-unfolding forward heeding leave wanted
+unfolding forward setMarkers leave wanted
 forward-rests r stage over waits =
-    by-test (RestsAt stage) (wanted (heeding r .envelope)) _ _ (λ _ had. absurd (false≢true had))
+    by-test (RestsAt stage) (wanted (setMarkers r .envelope)) _ _ (λ _ had. absurd (false≢true had))
     (λ off _. record {
       over = over;
       waits = waits;
       unwanted = off;
       unasked =
-          asked-heeded (r .envelope .full) r (or-first (for (heeding r .envelope .marker) (r .envelope .full)) _ off);
+          asked-heeded (r .envelope .full) r
+          (or-first (for (setMarkers r .envelope .marker) (r .envelope .full)) _ off);
     })
 
 -- ---- a put, by the stage that it finds
@@ -79,9 +80,9 @@ module _ (e : Envelope) (p : Process) (fits : Fits e p) where
       subst (λ (n : ℕ). RestsWith n r) (sym here) (rests had)
 
   -- stages 0, 1 and 6
-  stroll-rests : plain (p .stage) ≡ true → Rested (stroll start)
-  unfolding stroll
-  stroll-rests is-plain =
+  relay-rests : plain (p .stage) ≡ true → Rested (relay start)
+  unfolding relay
+  relay-rests is-plain =
       by-test Rested (p .have) _ _
       (λ had.
       rests-at (forward start) (p .stage) (forward-owed e p start had start-owed .stage-same)
@@ -97,7 +98,7 @@ module _ (e : Envelope) (p : Process) (fits : Fits e p) where
   wait-rests s here =
       by-test Rested (p .have) _ _
       (λ had. by-test Rested (Bool·beq (e .full) s) _ _
-      (λ _ _ _ is-restful. absurd (true≢false (sym is-restful ∙ may-restless s)))
+      (λ _ _ _ is-resting. absurd (true≢false (sym is-resting ∙ may-restless s)))
       (λ differs.
       let m = mark-waiting e p fits s here (other-status (e .full) s differs) in
       rests-at (forward (mark start)) (p .stage) (forward-owed e p (mark start) had m .stage-same)
@@ -109,7 +110,7 @@ module _ (e : Envelope) (p : Process) (fits : Fits e p) where
       waiting-wants true = refl
       waiting-wants false = refl
 
-      may-restless : (s : Status) → restful (mayFor s) ≡ false
+      may-restless : (s : Status) → resting (mayFor s) ≡ false
       may-restless true = refl
       may-restless false = refl
 
@@ -137,7 +138,7 @@ module _ (e : Envelope) (p : Process) (fits : Fits e p) where
     unfolding put
     put-rests before =
         by-test Rested (p .news) _ _
-        (λ _. by-stage Rested (p .stage) start stroll-rests (wait-rests empty) (wait-rests full) send-rests
+        (λ _. by-stage Rested (p .stage) start relay-rests (wait-rests empty) (wait-rests full) send-rests
         (λ _. get-rests)
         (λ calm _ _ rests. absurd (calm-restless (p .stage) (fits .range) calm rests)))
         (λ _. before)
@@ -153,27 +154,28 @@ receive-news : (e : Envelope) (p : Process) → p .arriving ≡ true → receive
 unfolding receive
 receive-news e p comes = rw comes
 
-hear-news : (s : Status) (e : Envelope) (p : Process) → for (p .link) s ≡ true → hear s e p .process .news ≡ true
-unfolding hear
-hear-news s e p asked = rw asked
+request-news : (s : Status) (e : Envelope) (p : Process) → for (p .link) s ≡ true
+    → takeRequest s e p .process .news ≡ true
+unfolding takeRequest
+request-news s e p asked = rw asked
 
 module _ (e : Envelope) (p : Process) (before : AtRest e p) where
-  -- a stage that isn't restful claims nothing, and nor do news
+  -- a stage that isn't resting claims nothing, and nor do news
   start-put-rests : (m : ℕ) → Rested (startPut m e p)
   unfolding startPut
   start-put-rests m =
-      by-test Rested (eqb (p .stage) 0) _ _ (λ _ _ _ is-restful. absurd (false≢true is-restful)) (λ _. before)
+      by-test Rested (eqb (p .stage) 0) _ _ (λ _ _ _ is-resting. absurd (false≢true is-resting)) (λ _. before)
 
   start-get-rests : Rested (startGet e p)
   unfolding startGet
   start-get-rests =
-      by-test Rested (eqb (p .stage) 0) _ _ (λ _ _ _ is-restful. absurd (false≢true is-restful)) (λ _. before)
+      by-test Rested (eqb (p .stage) 0) _ _ (λ _ _ _ is-resting. absurd (false≢true is-resting)) (λ _. before)
 
   work-rests : Rested (work e p)
   unfolding work
   work-rests =
-      by-test Rested (eqb (p .stage) 3) _ _ (λ _ _ _ is-restful. absurd (false≢true is-restful))
-      (λ _. by-test Rested (eqb (p .stage) 8) _ _ (λ _ _ _ is-restful. absurd (false≢true is-restful)) (λ _. before))
+      by-test Rested (eqb (p .stage) 3) _ _ (λ _ _ _ is-resting. absurd (false≢true is-resting))
+      (λ _. by-test Rested (eqb (p .stage) 8) _ _ (λ _ _ _ is-resting. absurd (false≢true is-resting)) (λ _. before))
 
   -- where an event of the get thread is possible there are news, else it is idle
   news-rest : (b : Bool) (r : Reaction) → (b ≡ true → r .process .news ≡ true) → (b ≡ false → Rested r) → Rested r
@@ -188,9 +190,9 @@ module _ (e : Envelope) (p : Process) (before : AtRest e p) where
   unfolding receive
   receive-rests = news-rest (p .arriving) (receive e p) (receive-news e p) (λ off. rw off before)
 
-  hear-rests : (s : Status) → Rested (hear s e p)
-  unfolding hear
-  hear-rests s = news-rest (for (p .link) s) (hear s e p) (hear-news s e p) (λ off. rw off before)
+  request-rests : (s : Status) → Rested (takeRequest s e p)
+  unfolding takeRequest
+  request-rests s = news-rest (for (p .link) s) (takeRequest s e p) (request-news s e p) (λ off. rw off before)
 
 -- any event, by its code
 pub react-rests : (e : Envelope) (p : Process) → Fits e p → ((s : Status) → marksFor s p ≤ count (e .marked) s)
@@ -198,4 +200,5 @@ pub react-rests : (e : Envelope) (p : Process) → Fits e p → ((s : Status) �
     → AtRest (react code m e p .envelope) (react code m e p .process)
 react-rests e p fits own code m before =
     every-code Rested code m e p (start-put-rests e p before m) (start-get-rests e p before) (work-rests e p before)
-    (signal-rests e p before) (receive-rests e p before) (hear-rests e p before) (put-rests e p fits own before) before
+    (signal-rests e p before) (receive-rests e p before) (request-rests e p before) (put-rests e p fits own before)
+    before

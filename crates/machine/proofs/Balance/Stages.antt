@@ -1,5 +1,4 @@
--- Laws of the stages: tests that the checker computes at all eleven, and waiting, said once over the status. Assumes
--- nothing.
+-- Laws of the stages: tests that the checker computes at all eleven, and waiting, said once over the status.
 use Prim.Native.Nat.{ℕ}
 use mathlib.Core.Path.{_≡_, refl, sym, _∙_}
 use mathlib.Core.Bool.{Bool, true, false, not, cond, _||_, Bool·beq, true≢false}
@@ -9,10 +8,10 @@ use borrow.Author.Tests.{leb-true}
 use Rattle.machine.specs.Lists.{every}
 use Rattle.machine.specs.Fields.{Status}
 use Rattle.machine.specs.Stages.{lastStage}
-use Rattle.machine.proofs.Lists.{every-at, follow}
-use Rattle.machine.proofs.Ways.{moving}
-use Rattle.machine.proofs.Settled.{waitsFor}
-use Rattle.machine.proofs.Balance.Clauses.{restful}
+use Rattle.machine.proofs.Laws.Lists.{every-at, follow}
+use Rattle.machine.proofs.Soundness.Ways.{moving}
+use Rattle.machine.proofs.Soundness.Settled.{waitsFor}
+use Rattle.machine.proofs.Balance.Clauses.{resting}
 
 -- what holds at 0 to 10 holds at every stage
 pub at-stages : (f : ℕ → Bool) → every 11 f ≡ true → (stage : ℕ) → leb stage lastStage ≡ true → f stage ≡ true
@@ -36,9 +35,9 @@ waits-same false false = refl
 abbrev pub mayFor : Status → ℕ
 mayFor s = cond s 8 3
 
--- where a put only clears its news, the stage is not restful
-pub calm-restless : (stage : ℕ) → leb stage lastStage ≡ true → moving stage ≡ false → restful stage ≡ true → ⊥
+-- where a put only clears its news, the stage is not resting
+pub calm-restless : (stage : ℕ) → leb stage lastStage ≡ true → moving stage ≡ false → resting stage ≡ true → ⊥
 unfolding every
 calm-restless stage range calm rests =
-    let known = at-stages (λ k. not (restful k) || moving k) refl stage range in
-    absurd (true≢false (sym (follow (restful stage) (moving stage) known rests) ∙ calm))
+    let known = at-stages (λ k. not (resting k) || moving k) refl stage range in
+    absurd (true≢false (sym (follow (resting stage) (moving stage) known rests) ∙ calm))

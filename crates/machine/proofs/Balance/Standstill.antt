@@ -1,7 +1,7 @@
 -- A stopped ring has ended what can end. A process has the envelope and rests: nobody wants the present status, and the
 -- holder wasn't asked for it. This passes from the left of each process to the process, so round the ring. So nobody
 -- waits for the present status: no get is under way if it is full, no put if it is empty. And if it is full, the put
--- that filled it hasn't ended. The numbers follow. Assumes nothing.
+-- that filled it hasn't ended. The numbers follow.
 use Prim.Native.Nat.{ℕ, zero, suc, _≤_, _<_, min}
 use mathlib.Core.Path.{_≡_, refl, sym, ap, _∙_}
 use mathlib.Core.Bool.{Bool, true, false, cond, _&&_, true≢false}
@@ -20,12 +20,12 @@ use Rattle.machine.specs.Sound.{places}
 use Rattle.machine.specs.Events.{positive, wanted, processAt}
 use Rattle.machine.specs.Stopped.{quiet, stopped, Stopped}
 use Rattle.machine.specs.Balance.{Totals, inStages, ownMessage, PairsEnded}
-use Rattle.machine.proofs.Lists.{or-second, all-at}
-use Rattle.machine.proofs.Bits.{bit-on}
-use Rattle.machine.proofs.Sums.{some-part, parts-le, parts-none, flagsSet, mark-counted}
-use Rattle.machine.proofs.Facts.{fits-at}
+use Rattle.machine.proofs.Laws.Lists.{or-second, all-at}
+use Rattle.machine.proofs.Laws.Bits.{bit-on}
+use Rattle.machine.proofs.Soundness.Sums.{some-part, parts-le, parts-none, flagsSet, mark-counted}
+use Rattle.machine.proofs.Soundness.Facts.{fits-at}
 use Rattle.machine.proofs.Stopped.{means-stopped, quiet-nothing}
-use Rattle.machine.proofs.Ring.{left-below}
+use Rattle.machine.proofs.Laws.Ring.{left-below}
 use Rattle.machine.proofs.Balance.Clauses.{emptied, Rests, Invariant}
 use Rattle.machine.proofs.Balance.Walk.{round}
 use Rattle.machine.proofs.Balance.Still.{refuted, Still, nothing-still, filled-rests}

@@ -1,5 +1,5 @@
 -- The fresh ring has the invariant: each record is blank, but for the envelope at the home process, so nothing is
--- wanted, asked or counted. Assumes nothing.
+-- wanted, asked or counted.
 use Prim.Native.Nat.{ℕ, zero, suc, _≤_, _<_}
 use mathlib.Core.Path.{_≡_, refl, sym, ap, _∙_}
 use mathlib.Core.Bool.{Bool, true, false, true≢false, false≢true}
@@ -14,9 +14,9 @@ use Rattle.machine.specs.Fresh.{freshEnvelope, freshState}
 use Rattle.machine.specs.Events.{wanted, processAt}
 use Rattle.machine.specs.Run.{noCounts}
 use Rattle.machine.specs.Balance.{totalsOf, inStages}
-use Rattle.machine.proofs.Fresh.{fresh-fits, length-fresh}
-use Rattle.machine.proofs.Sums.{parts-none}
-use Rattle.machine.proofs.Facts.{state-facts}
+use Rattle.machine.proofs.Image.Fresh.{fresh-fits, length-fresh}
+use Rattle.machine.proofs.Soundness.Sums.{parts-none}
+use Rattle.machine.proofs.Soundness.Facts.{state-facts}
 use Rattle.machine.proofs.Balance.Clauses.{emptied, AtRest, HasAsked, awaits, Invariant}
 
 -- ---- a record of the fresh ring

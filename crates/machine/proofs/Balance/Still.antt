@@ -1,6 +1,6 @@
 -- One process where no event finds anything to do. With the envelope it rests as clause A says. Without it, it asked
 -- its left for the present status only if its left was asked: so if its left rests as clause A says, it does too. And
--- then no put or get that the present status serves is under way here. Assumes nothing.
+-- then no put or get that the present status serves is under way here.
 use Prim.Native.Nat.{ℕ, _≤_}
 use mathlib.Core.Path.{_≡_, refl, sym, _∙_}
 use mathlib.Core.Bool.{Bool, true, false, not, cond, _&&_, _||_, true≢false, false≢true}
@@ -13,10 +13,10 @@ use Rattle.machine.specs.Lists.{every}
 use Rattle.machine.specs.Fields.{Status, for}
 use Rattle.machine.specs.Stages.{lastStage, told, sending, filled, receiving}
 use Rattle.machine.specs.Sound.{stageFits}
-use Rattle.machine.proofs.Lists.{and-first, and-second, or-first, or-second, follow}
-use Rattle.machine.proofs.Settled.{Fits, had-at, waitsFor}
+use Rattle.machine.proofs.Laws.Lists.{and-first, and-second, or-first, or-second, follow}
+use Rattle.machine.proofs.Soundness.Settled.{Fits, had-at, waitsFor}
 use Rattle.machine.proofs.Stopped.{nothingAt}
-use Rattle.machine.proofs.Balance.Clauses.{restful, emptied, Rests, seeks, HasAsked}
+use Rattle.machine.proofs.Balance.Clauses.{resting, emptied, Rests, seeks, HasAsked}
 use Rattle.machine.proofs.Balance.Clauses.{holdsRequest, Handed}
 use Rattle.machine.proofs.Balance.Stages.{at-stages}
 
@@ -31,7 +31,7 @@ refuted false never = refl
 
 -- it is at rest, nothing arrives, no request is on its link, and it has no news
 pub record Still (p : Process) : Type 0 where
-  pub at-rest : restful (p .stage) ≡ true
+  pub at-rest : resting (p .stage) ≡ true
   pub unreached : p .arriving ≡ false
   pub unlinked : (s : Status) → for (p .link) s ≡ false
   pub unaware : p .news ≡ false
@@ -40,10 +40,10 @@ pub record Still (p : Process) : Type 0 where
 abbrev unmoved : ℕ → Bool
 unmoved stage = not (eqb stage 3) && not (eqb stage 8) && not (told stage)
 
-unmoved-rests : (stage : ℕ) → leb stage lastStage ≡ true → unmoved stage ≡ true → restful stage ≡ true
+unmoved-rests : (stage : ℕ) → leb stage lastStage ≡ true → unmoved stage ≡ true → resting stage ≡ true
 unfolding every
 unmoved-rests stage range =
-    follow (unmoved stage) (restful stage) (at-stages (λ k. not (unmoved k) || restful k) refl stage range)
+    follow (unmoved stage) (resting stage) (at-stages (λ k. not (unmoved k) || resting k) refl stage range)
 
 pub nothing-still : (p : Process) → leb (p .stage) lastStage ≡ true → nothingAt p ≡ true → Still p
 nothing-still p range nothing =
@@ -66,11 +66,11 @@ nothing-still p range nothing =
     }
 
 -- a put at rest that has filled the envelope is in stage 5
-pub filled-rests : (stage : ℕ) → leb stage lastStage ≡ true → restful stage ≡ true → filled stage ≡ true → stage ≡ 5
+pub filled-rests : (stage : ℕ) → leb stage lastStage ≡ true → resting stage ≡ true → filled stage ≡ true → stage ≡ 5
 unfolding every
 filled-rests stage range rests on =
-    let law = at-stages (λ k. not (restful k && filled k) || eqb k 5) refl stage range in
-    eqb-true stage 5 (follow (restful stage && filled stage) (eqb stage 5) law (rw (rests, on)))
+    let law = at-stages (λ k. not (resting k && filled k) || eqb k 5) refl stage range in
+    eqb-true stage 5 (follow (resting stage && filled stage) (eqb stage 5) law (rw (rests, on)))
 
 -- ---- at rest as clause A says
 
@@ -121,7 +121,7 @@ pub record Unserved (status : Status) (have : Bool) (stage : ℕ) : Type 0 where
 -- the stage has the envelope that it needs, is at rest, doesn't wait for the present status, and isn't 10
 abbrev standing : Status → Bool → ℕ → Bool
 standing status have stage =
-    stageFits status have stage && restful stage && not (eqb stage (waitsFor status)) && not (eqb stage 10)
+    stageFits status have stage && resting stage && not (eqb stage (waitsFor status)) && not (eqb stage 10)
 
 -- then it is unserved, as a test
 abbrev standsUnserved : Status → Bool → ℕ → Bool

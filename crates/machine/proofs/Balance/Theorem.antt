@@ -1,5 +1,5 @@
 -- The third demand over events: after every list of events from the fresh ring the invariant holds, and what balances
--- is read off it. Assumes nothing.
+-- is read off it.
 use Prim.Native.Nat.{ℕ, _≤_, _<_}
 use mathlib.Core.Path.{_≡_}
 use mathlib.Core.Bool.{true}
@@ -10,7 +10,7 @@ use Rattle.machine.specs.Fresh.{freshState}
 use Rattle.machine.specs.Events.{Event}
 use Rattle.machine.specs.Run.{noCounts, after}
 use Rattle.machine.specs.Balance.{Totals, totalsFrom, Balanced, onRing, EveryListBalances}
-use Rattle.machine.proofs.Fresh.{length-fresh}
+use Rattle.machine.proofs.Image.Fresh.{length-fresh}
 use Rattle.machine.proofs.Balance.Clauses.{Invariant}
 use Rattle.machine.proofs.Balance.Start.{fresh-invariant}
 use Rattle.machine.proofs.Balance.Kept.{events-kept}

@@ -1,5 +1,5 @@
 -- The claim is not empty: lists of events that end stopped, one with all that can happen in it, and one that leaves a
--- sender waiting. The checker computes them. Assumes nothing.
+-- sender waiting. The checker computes them.
 use Prim.Native.Nat.{ℕ}
 use mathlib.Core.Path.{_≡_, refl}
 use mathlib.Core.Bool.{true}
@@ -9,7 +9,7 @@ use Rattle.machine.specs.Events.{Event, processAt}
 use Rattle.machine.specs.Stopped.{stopped}
 use Rattle.machine.specs.Run.{after}
 use Rattle.machine.specs.Balance.{totalsFrom, onRing}
-use Rattle.machine.proofs.Computed.{rules}
+use Rattle.machine.proofs.Cases.Computed.{rules}
 
 -- an event at a process
 abbrev pub at : ℕ → ℕ → ℕ → Event

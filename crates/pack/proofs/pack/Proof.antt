@@ -1,4 +1,4 @@
--- After b blocks the start of the tape is the first b blocks of the list's tape. Assumes nothing.
+-- After b blocks the start of the tape is the first b blocks of the list's tape.
 use Prim.Native.Nat.{_-_, _≤_}
 use mathlib.Core.Path.{_≡_, refl}
 use native.Mathlib.Omega.{arith}

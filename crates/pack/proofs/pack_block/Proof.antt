@@ -1,4 +1,4 @@
--- The four stores are the rule's block, and the check is taken of the other three. Assumes nothing.
+-- The four stores are the rule's block, and the check is taken of the other three.
 use native.Mathlib.Omega.{arith}
 use Rattle.pack.proofs.Packed.{block-packed}
 use Rattle.pack.proofs.pack_block.Statement.{statement}

@@ -1,4 +1,4 @@
--- After b blocks the start of the list is the events of the first b blocks. Assumes nothing.
+-- After b blocks the start of the list is the events of the first b blocks.
 use Prim.Native.Nat.{_-_, _≤_}
 use mathlib.Core.Path.{_≡_, refl}
 use native.Mathlib.Omega.{arith}

@@ -1,6 +1,6 @@
--- An event that isn't possible is idle; any other is applied, and its reaction is placed. Assumes nothing.
+-- An event that isn't possible is idle; any other is applied, and its reaction is placed.
 use borrow.Author.Needs.{needs}
-use Rattle.machine.proofs.Refusals.{image-fine}
+use Rattle.machine.proofs.Laws.Refusals.{image-fine}
 use Rattle.place.proofs.Ways.{may-test, idle-done, may-apply, may-place, moved-done}
 use Rattle.place.proofs.perform.Statement.{statement}
 use Rattle.place.proofs.perform.Tie as tie

@@ -1,6 +1,6 @@
--- Own record, header, and the neighbour that is reached, one after the other. Assumes nothing.
+-- Own record, header, and the neighbour that is reached, one after the other.
 use borrow.Author.Needs.{needs}
-use Rattle.machine.proofs.Refusals.{image-fine}
+use Rattle.machine.proofs.Laws.Refusals.{image-fine}
 use Rattle.place.proofs.Written.{few-asks, beside-left, beside-right, placed-own, placed-left}
 use Rattle.place.proofs.Written.{placed-right}
 use Rattle.place.proofs.place.Statement.{statement}

@@ -1,4 +1,4 @@
--- The record at k is read, changed and written. Assumes nothing.
+-- The record at k is read, changed and written.
 use borrow.Author.Needs.{needs}
 use Rattle.place.proofs.request.Statement.{statement}
 use Rattle.place.proofs.request.Tie as tie

@@ -1,4 +1,4 @@
--- A byte within the input as it is, and 0 past its end. Assumes nothing.
+-- A byte within the input as it is, and 0 past its end.
 use mathlib.Core.Path.{sym}
 use native.Mathlib.Omega.{arith}
 use lib.ListN.{List·getD-eq-default}

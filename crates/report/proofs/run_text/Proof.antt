@@ -1,12 +1,12 @@
--- A refused run has the tape's own refusal; after one that is done, lines, counts and the last line are the rules' text,
--- and stopped isn't refused. Assumes nothing.
+-- A refused run has the tape's own refusal; after one that is done, lines, counts and the last line are the rules'
+-- text, and stopped isn't refused.
 use Prim.Native.Nat.{ℕ}
 use mathlib.Core.Path.{ap}
 use mathlib.Core.Bool.{true, false}
 use mathlib.Core.List.{List}
 use native.Mathlib.Omega.{arith}
 use lib.ListN.{replicate}
-use Rattle.stopped.specs.Stopped.{told}
+use Rattle.stopped.specs.Stopped.{inNumbers}
 use Rattle.stopped.proofs.Refused.{neither-refused}
 use Rattle.text.proofs.Laws.{piece-is}
 use Rattle.report.proofs.Ran.{zeros-room, run-refused, records-few-told, stopped-refused, stopped-says, run-done}
@@ -42,7 +42,8 @@ returns-2 c =
     (rest .before .before .before .ran .given .1)
     (λ k. omega (arith, g .before .before .before .before .before .slice-known .given k))
     (λ k. omega (arith, g .before .before .before .before .shared-slice-known .given k))
-    (g .run .ensures .1 .0) (rest .stopped .result) (rest .stopped .ensures) it (c .before .before .before .refusal2 .ensures))
+    (g .run .ensures .1 .0) (rest .stopped .result) (rest .stopped .ensures) it
+    (c .before .before .before .refusal2 .ensures))
     (c .before .before .put-refusal2 .ensures)
 
 put-ran-requires : tie.Need-put-ran-requires
@@ -60,20 +61,23 @@ put-ran-requires c κs =
 
 returns-3 : tie.Need-returns-3
 returns-3 c =
-    let g = c .before .before .before .before .before .before .before .before .before .before .before .before .before .before .before .before in
+    let g =
+    c .before .before .before .before .before .before .before .before .before .before .before .before .before .before
+    .before .before in
     let start = g .before .before .before .before .before .before in
     let image = start .args .image .now in
     let tape = start .args .tape .now in
     let fine = start .pre .0 in
     let few = start .pre .1 in
-    let is-done = c .before .before .before .before .before .before .before .before .before .before .before .ran .given .1 in
+    let is-done =
+    c .before .before .before .before .before .before .before .before .before .before .before .ran .given .1 in
     let rest = c .before .before .before .before .before .before .before .before .stopped in
     let ends =
     stopped-says image tape blank fine few (zeros-room 48384) _ (g .run .ensures .0) is-done
     (λ k. omega (arith, g .before .before .before .before .before .slice-known .given k))
     (λ k. omega (arith, g .before .before .before .before .shared-slice-known .given k))
     (g .run .ensures .1 .0) (rest .result) (rest .ensures) false
-    (ap told (c .before .before .before .before .before .enum-told3 .given .1)) in
+    (ap inNumbers (c .before .before .before .before .before .enum-told3 .given .1)) in
     piece-is
     (run-done image tape blank fine few (zeros-room 48384) _ (g .run .ensures .0) is-done
     (λ k. omega (arith, g .before .before .before .before .before .slice-known .given k))
@@ -96,7 +100,9 @@ put-ran-requires-2 c κs =
 
 returns-4 : tie.Need-returns-4
 returns-4 c =
-    let g = c .before .before .before .before .before .before .before .before .before .before .before .before .before .before .before in
+    let g =
+    c .before .before .before .before .before .before .before .before .before .before .before .before .before .before
+    .before in
     let start = g .before .before .before .before .before .before in
     let image = start .args .image .now in
     let tape = start .args .tape .now in
@@ -109,7 +115,7 @@ returns-4 c =
     (λ k. omega (arith, g .before .before .before .before .before .slice-known .given k))
     (λ k. omega (arith, g .before .before .before .before .shared-slice-known .given k))
     (g .run .ensures .1 .0) (rest .result) (rest .ensures) true
-    (ap told (c .before .before .before .before .before .enum-told2 .given .1)) in
+    (ap inNumbers (c .before .before .before .before .before .enum-told2 .given .1)) in
     piece-is
     (run-done image tape blank fine few (zeros-room 48384) _ (g .run .ensures .0) is-done
     (λ k. omega (arith, g .before .before .before .before .before .slice-known .given k))

@@ -1,11 +1,12 @@
--- Each refusal is the rule's first; past them the run's text is the whole one. Assumes nothing.
+-- Each refusal is the rule's first; past them the run's text is the whole one.
 use Prim.Native.Nat.{ℕ}
 use mathlib.Core.List.{List}
 use native.Mathlib.Omega.{arith}
 use lib.ListN.{replicate}
 use Rattle.text.proofs.Laws.{piece-is}
 use Rattle.report.proofs.Ran.{zeros-room}
-use Rattle.report.proofs.Whole.{blocks-given, blocks-few, fresh-refused, length-refused, image-accepted, run-whole}
+use Rattle.report.proofs.Whole.{blocks-given, blocks-few, fresh-refused, length-refused, image-accepted}
+use Rattle.report.proofs.Whole.{run-whole}
 use Rattle.report.proofs.whole_text.Statement.{statement}
 use Rattle.report.proofs.whole_text.Tie as tie
 
@@ -55,7 +56,8 @@ returns-3 c =
     let done = c .before .before .before .before .before .before .before .before .before .enum-told .given .1 in
     let tape = blocks-given input (c .before .before .before .before .before .before .before .blocks-from .ensures) in
     piece-is
-    (run-whole input blank (zeros-room 528) n home _ (g .fresh .ensures .0) done (g .fresh .ensures .1) (omega arith) tape)
+    (run-whole input blank (zeros-room 528) n home _ (g .fresh .ensures .0) done (g .fresh .ensures .1) (omega arith)
+    tape)
     (c .before .before .before .run-text .ensures)
 
 pub whole-text-spec : {M : Type 1} → statement M

@@ -1,4 +1,4 @@
--- What report has filled lies within the output. Assumes nothing.
+-- What report has filled lies within the output.
 use mathlib.Core.Path.{sym}
 use native.Mathlib.Omega.{arith}
 use lib.Seq.{length-take-le}

@@ -1,7 +1,7 @@
 -- The image first, then the tape, by the size that the image has.
 use mathlib.Core.Path.{sym, _∙_}
 use native.Mathlib.Omega.{arith}
-use Rattle.machine.proofs.Refusals.{image-fine}
+use Rattle.machine.proofs.Laws.Refusals.{image-fine}
 use Rattle.run.proofs.Ways.{by-image, by-tape}
 use Rattle.run.proofs.inputs_verdict.Statement.{statement}
 use Rattle.run.proofs.inputs_verdict.Tie as tie
@@ -9,7 +9,8 @@ use Rattle.run.proofs.inputs_verdict.Tie as tie
 returns : tie.Need-returns
 returns c =
     let a = c .before .before .before .before .before .args in
-    by-image (a .image .now) (a .tape .now) (a .tape .now) (c .before .before .image-verdict .ensures) (c .enum-told2 .given .1)
+    by-image (a .image .now) (a .tape .now) (a .tape .now) (c .before .before .image-verdict .ensures)
+    (c .enum-told2 .given .1)
 
 shared-slice-read-wide : tie.Need-shared-slice-read-wide
 shared-slice-read-wide c =
@@ -21,11 +22,13 @@ returns-2 : tie.Need-returns-2
 returns-2 c =
     let t = c .before .before .before in
     let a = t .before .before .before .before .before .args in
-    by-tape (a .image .now) (a .tape .now) (a .tape .now) (t .before .before .image-verdict .ensures) (t .enum-told .given .1)
+    by-tape (a .image .now) (a .tape .now) (a .tape .now) (t .before .before .image-verdict .ensures)
+    (t .enum-told .given .1)
     (c .before .wide .ensures .0) (c .tape-verdict .ensures)
 
 pub inputs-verdict-spec : {M : Type 1} → statement M
 inputs-verdict-spec =
     tie.close
-    (tie.spec (λ c κs. tt) (λ c. omega arith) (λ c. omega arith) returns shared-slice-read-wide (λ c κs. tt) (λ c κs. tt)
+    (tie.spec (λ c κs. tt) (λ c. omega arith) (λ c. omega arith) returns shared-slice-read-wide (λ c κs. tt)
+    (λ c κs. tt)
     returns-2)

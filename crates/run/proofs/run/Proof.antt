@@ -5,7 +5,7 @@ use borrow.Author.Tests.{not-true, not-false}
 use Rattle.machine.specs.declared.Verdict.the-variants.{Fine}
 use Rattle.machine.specs.Image.{sizeIn}
 use Rattle.machine.specs.Refusals.{orElse, codes, imageVerdict, tapeVerdict}
-use Rattle.refusal.proofs.Verdicts.{handed-on}
+use Rattle.numbers.proofs.Verdicts.{handed-on}
 use Rattle.run.proofs.Ways.{run-refused, run-accepted, playable, ledger-refused, has-room, run-done}
 use Rattle.run.proofs.run.Statement.{statement}
 use Rattle.run.proofs.run.Tie as tie
@@ -41,8 +41,8 @@ returns-2 c =
     ledger-refused (a .image .now) (a .tape .now) (a .ledger .now) (fine f) (c .before .has-room .ensures)
     (not-true _ (c .if1 .taken))
 
-play-requires : tie.Need-play-requires
-play-requires c κs =
+replay-requires : tie.Need-replay-requires
+replay-requires c κs =
     let f = c .before .before .before .before .before .before in
     let a = f .before .before .before .before .before .before .before .args in
     playable (a .image .now) (a .tape .now) (a .ledger .now) (fine f)
@@ -57,12 +57,12 @@ returns-3 c =
     let measured = room .before .has-room .ensures in
     let enough = not-false _ (room .if1 .left) in
     let fits = has-room (a .image .now) (a .tape .now) (a .ledger .now) (fine f) measured enough in
-    run-done (a .image .now) (a .tape .now) (a .ledger .now) (fine f) measured enough (p .play .ensures .0)
-    (p .play .ensures .1 .0) (p .play .ensures .1 .1 fits)
+    run-done (a .image .now) (a .tape .now) (a .ledger .now) (fine f) measured enough (p .replay .ensures .0)
+    (p .replay .ensures .1 .0) (p .replay .ensures .1 .1 fits)
 
 pub run-spec : {M : Type 1} → statement M
 run-spec =
     tie.close
     (tie.spec (λ c κs. tt) (λ c. omega arith) (λ c. omega arith) (λ c κs. tt) (λ c. omega arith) returns
-    event-count-requires has-room-requires (λ c. omega arith) returns-2 play-requires (λ c. omega arith)
+    event-count-requires has-room-requires (λ c. omega arith) returns-2 replay-requires (λ c. omega arith)
     (λ c. omega arith) returns-3)

@@ -1,4 +1,4 @@
--- Each arm is that entry's mask, and an entry that no arm names has its stage tested whole. Assumes nothing.
+-- Each arm is that entry's mask, and an entry that no arm names has its stage tested whole.
 use mathlib.Core.Path.{refl}
 use Rattle.sound.specs.Demands.{demandOf}
 use Rattle.sound.proofs.Rows.{row-is, rest-is}

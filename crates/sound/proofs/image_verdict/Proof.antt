@@ -1,8 +1,9 @@
--- The tests come in document 01's order, and each way out is one way through the rule. Assumes nothing.
+-- The tests come in document 01's order, and each way out is one way through the rule.
 use mathlib.Core.Path.{sym, _∙_}
 use native.Mathlib.Omega.{arith}
 use borrow.Author.Tests.{not-true, not-false}
-use Rattle.machine.proofs.Refusals.{SizeFits, image-under-16, image-too-few, image-too-many, image-short, image-whole}
+use Rattle.machine.proofs.Laws.Refusals.{SizeFits, image-under-16, image-too-few, image-too-many, image-short}
+use Rattle.machine.proofs.Laws.Refusals.{image-whole}
 use Rattle.machine.specs.Image.{sizeIn}
 use Rattle.sound.proofs.image_verdict.Statement.{statement}
 use Rattle.sound.proofs.image_verdict.Tie as tie

@@ -1,4 +1,4 @@
--- Each test that fails is one that every sound image passes; the last one decides. Assumes nothing.
+-- Each test that fails is one that every sound image passes; the last one decides.
 use native.Mathlib.Omega.{arith}
 use borrow.Author.Needs.{needs}
 use Rattle.sound.proofs.Whole.{mask-refuses, message-refuses, flags-refuse, counts-decide}

@@ -1,10 +1,11 @@
--- After i turns the first i of the bytes are zero and the others as they were. Assumes nothing.
+-- After i turns the first i of the bytes are zero and the others as they were.
 use Prim.Native.Nat.{_+_, _-_, _≤_}
 use mathlib.Core.Path.{_≡_, refl, ap, _∙_}
 use native.Mathlib.Omega.{arith}
 use lib.ListN.{length, replicate, set, length-set}
 use Rattle.machine.specs.Bytes.{splice}
-use Rattle.span.proofs.Laws.{splice-none, clear-more}
+use Rattle.machine.proofs.Laws.Splices.{splice-none}
+use Rattle.span.proofs.Laws.{clear-more}
 use Rattle.span.proofs.clear.Statement.{statement}
 use Rattle.span.proofs.clear.Tie as tie
 

@@ -1,10 +1,11 @@
--- After i turns the first i of the bytes are the other buffer's and the others as they were. Assumes nothing.
+-- After i turns the first i of the bytes are the other buffer's and the others as they were.
 use Prim.Native.Nat.{_+_, _-_, _≤_}
 use mathlib.Core.Path.{_≡_, refl, ap, _∙_}
 use native.Mathlib.Omega.{arith}
 use lib.ListN.{length, getD, set, length-set}
 use Rattle.machine.specs.Bytes.{part, splice}
-use Rattle.span.proofs.Laws.{splice-none, copy-more}
+use Rattle.machine.proofs.Laws.Splices.{splice-none}
+use Rattle.span.proofs.Laws.{copy-more}
 use Rattle.span.proofs.copy.Statement.{statement}
 use Rattle.span.proofs.copy.Tie as tie
 

@@ -1,4 +1,4 @@
--- What is or-ed of the bytes passed, and the bytes that are left, decide together for all. Assumes nothing.
+-- What is or-ed of the bytes passed, and the bytes that are left, decide together for all.
 use Prim.Native.Nat.{_+_, _-_, _≤_}
 use mathlib.Core.Path.{_≡_, sym, ap, ap₂, _∙_}
 use mathlib.Core.Bool.{Bool, _&&_, and-true}

@@ -1,7 +1,7 @@
 -- A verdict that refuses is handed on; else a run of the one event does what the rule says.
 use mathlib.Core.Path.{sym, _∙_}
 use native.Mathlib.Omega.{arith}
-use Rattle.refusal.proofs.Verdicts.{handed-on}
+use Rattle.numbers.proofs.Verdicts.{handed-on}
 use Rattle.step.proofs.Ways.{step-refused, may-turn, step-done}
 use Rattle.step.proofs.step.Statement.{statement}
 use Rattle.step.proofs.step.Tie as tie

@@ -1,7 +1,7 @@
 -- The image first, then the event, by the size that the image has.
 use mathlib.Core.Path.{sym, _∙_}
 use native.Mathlib.Omega.{arith}
-use Rattle.machine.proofs.Refusals.{image-fine}
+use Rattle.machine.proofs.Laws.Refusals.{image-fine}
 use Rattle.step.proofs.Ways.{by-image, by-event}
 use Rattle.step.proofs.step_verdict.Statement.{statement}
 use Rattle.step.proofs.step_verdict.Tie as tie
@@ -27,5 +27,6 @@ returns-2 c =
 pub step-verdict-spec : {M : Type 1} → statement M
 step-verdict-spec =
     tie.close
-    (tie.spec (λ c κs. tt) (λ c. omega arith) (λ c. omega arith) returns shared-slice-read-wide (λ c κs. tt) (λ c κs. tt)
+    (tie.spec (λ c κs. tt) (λ c. omega arith) (λ c. omega arith) returns shared-slice-read-wide (λ c κs. tt)
+    (λ c κs. tt)
     returns-2)

@@ -1,4 +1,4 @@
--- After i turns nothing waits exactly when the rule says so of the first i processes. Assumes nothing.
+-- After i turns nothing waits exactly when the rule says so of the first i processes.
 use Prim.Native.Nat.{_≤_, _-_}
 use mathlib.Core.Path.{_≡_}
 use native.Mathlib.Omega.{arith}

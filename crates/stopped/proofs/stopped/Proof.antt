@@ -4,8 +4,8 @@ use native.Mathlib.Omega.{arith}
 use borrow.Author.Tests.{not-true, not-false}
 use Rattle.machine.specs.declared.Verdict.the-variants.{Fine}
 use Rattle.machine.specs.Refusals.{imageVerdict}
-use Rattle.machine.proofs.Refusals.{image-fine}
-use Rattle.refusal.proofs.Verdicts.{handed-on}
+use Rattle.machine.proofs.Laws.Refusals.{image-fine}
+use Rattle.numbers.proofs.Verdicts.{handed-on}
 use Rattle.stopped.proofs.Ways.{stopped-refused, may-walk, stopped-yes, stopped-no}
 use Rattle.stopped.proofs.stopped.Statement.{statement}
 use Rattle.stopped.proofs.stopped.Tie as tie

@@ -3,7 +3,7 @@ use mathlib.Core.Path.{_≡_, sym, _∙_}
 use native.Mathlib.Omega.{arith}
 use Rattle.machine.specs.declared.Verdict.the-variants.{Fine}
 use Rattle.machine.specs.Refusals.{orElse, codes, sizeVerdict, tapeVerdict}
-use Rattle.refusal.proofs.Verdicts.{handed-on}
+use Rattle.numbers.proofs.Verdicts.{handed-on}
 use Rattle.tape.proofs.Reader.{read-refused, read-accepted, read-blocks, read-short, read-done}
 use Rattle.tape.proofs.read.Statement.{statement}
 use Rattle.tape.proofs.read.Tie as tie

@@ -1,8 +1,5 @@
 -- The size first, then the tape.
-use mathlib.Core.Path.{sym, _∙_}
-use native.Mathlib.Omega.{arith}
 use borrow.Author.Tests.{not-true, not-false}
-use Rattle.machine.specs.Refusals.{sizeVerdict, tapeVerdict}
 use Rattle.tape.proofs.Sizes.{size-refused, size-fits}
 use Rattle.tape.proofs.read_verdict.Statement.{statement}
 use Rattle.tape.proofs.read_verdict.Tie as tie

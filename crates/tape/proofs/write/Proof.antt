@@ -3,7 +3,7 @@ use mathlib.Core.Path.{_≡_, sym, _∙_}
 use native.Mathlib.Omega.{arith}
 use Rattle.machine.specs.declared.Verdict.the-variants.{Fine}
 use Rattle.machine.specs.Refusals.{orElse, codes, sizeVerdict, listVerdict}
-use Rattle.refusal.proofs.Verdicts.{handed-on}
+use Rattle.numbers.proofs.Verdicts.{handed-on}
 use Rattle.tape.proofs.Writer.{write-refused, write-events, write-short, write-done}
 use Rattle.tape.proofs.write.Statement.{statement}
 use Rattle.tape.proofs.write.Tie as tie

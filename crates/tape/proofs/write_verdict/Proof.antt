@@ -1,8 +1,5 @@
 -- The size first, then the list.
-use mathlib.Core.Path.{sym, _∙_}
-use native.Mathlib.Omega.{arith}
 use borrow.Author.Tests.{not-true, not-false}
-use Rattle.machine.specs.Refusals.{sizeVerdict, listVerdict}
 use Rattle.tape.proofs.Sizes.{size-refused, size-fits}
 use Rattle.tape.proofs.write_verdict.Statement.{statement}
 use Rattle.tape.proofs.write_verdict.Tie as tie

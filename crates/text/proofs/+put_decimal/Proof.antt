@@ -1,5 +1,5 @@
 -- One digit is written at once; any more are those of a tenth, and then the last one behind them. The measure is the
--- number. Assumes nothing.
+-- number.
 use mathlib.Core.Path.{_∙_}
 use native.Mathlib.Omega.{arith}
 use lib.ListN.{length-set}

@@ -1,4 +1,4 @@
--- The number, and then one byte. Assumes nothing.
+-- The number, and then one byte.
 use mathlib.Core.Path.{_∙_}
 use native.Mathlib.Omega.{arith}
 use lib.ListN.{length-set}

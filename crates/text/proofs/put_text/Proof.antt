@@ -1,4 +1,4 @@
--- The whole text is copied. Assumes nothing.
+-- The whole text is copied.
 use native.Mathlib.Omega.{arith}
 use Rattle.text.proofs.Laws.{piece-copied}
 use Rattle.text.proofs.put_text.Statement.{statement}

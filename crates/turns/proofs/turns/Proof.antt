@@ -1,20 +1,20 @@
 -- Each turn performs, counts and enters the next event, so the image, the ledger, the word of counts and the last
--- outcome are always what the events so far come to. Assumes nothing.
+-- outcome are always what the events so far come to.
 use Prim.Native.Nat.{_-_}
 use mathlib.Core.Logic.{⊎-elim}
 use native.Mathlib.Omega.{arith}
 use borrow.Author.Needs.{needs}
 use Rattle.machine.specs.Bytes.{littleEndian}
-use Rattle.machine.proofs.Refusals.{image-fine}
+use Rattle.machine.proofs.Laws.Refusals.{image-fine}
 use Rattle.turns.proofs.Packed.{numbered, packed-more, packed-fits}
-use Rattle.turns.proofs.Going.{Going, going-start, stands, gone}
+use Rattle.turns.proofs.Progress.{Progress, going-start, stands, gone}
 use Rattle.turns.proofs.Ways.{word-idle, word-more, none-entered, record-long, may-perform, turned}
 use Rattle.turns.proofs.turns.Statement.{statement}
 use Rattle.turns.proofs.turns.Tie as tie
 
 abbrev Inv-loop : tie.InvT-loop
 Inv-loop image₀ bytes start first end ledger₀ from counts₀ last₀ place₀ k₀ at₀ image ledger counts last place k at =
-    Going image₀ bytes start first end ledger₀ from image ledger counts last place k at
+    Progress image₀ bytes start first end ledger₀ from image ledger counts last place k at
 
 abbrev μ-loop : tie.MeasureT-loop
 μ-loop image₀ bytes start first end ledger₀ from counts₀ last₀ place₀ k₀ at₀ image ledger counts last place k at =

@@ -1,5 +1,5 @@
 -- The record after its code's row is in order, and put, main's work or nothing more makes the rule's reaction of it
--- (Applied). Assumes nothing.
+-- (Applied).
 use native.Mathlib.Omega.{arith}
 use borrow.Author.Needs.{needs}
 use Rattle.event.proofs.Applied.{word-fits, word-tidy, begun, still-counted, after-put, after-work, after-row}

@@ -1,4 +1,4 @@
--- The rule's four tests, as they read their bytes. Assumes nothing.
+-- The rule's four tests, as they read their bytes.
 use native.Mathlib.Omega.{arith}
 use borrow.Author.Needs.{needs}
 use Rattle.event.proofs.Bytes.{fits-read}

@@ -1,4 +1,4 @@
--- The bit of the event's code is tested among the record's bits and those of its stage (Possible). Assumes nothing.
+-- The bit of the event's code is tested among the record's bits and those of its stage (Possible).
 use Prim.Native.Nat.{_%_}
 use mathlib.Core.Path.{_≡_, ap, _∙_}
 use native.Mathlib.Omega.{arith}

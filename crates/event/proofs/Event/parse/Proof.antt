@@ -1,4 +1,4 @@
--- Process, code and message, each from its own bytes. Assumes nothing.
+-- Process, code and message, each from its own bytes.
 use native.Mathlib.Omega.{arith}
 use borrow.Author.Needs.{needs}
 use Rattle.event.proofs.Bytes.{event-read}

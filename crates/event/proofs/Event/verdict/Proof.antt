@@ -1,4 +1,4 @@
--- Not eight bytes, eight bytes that fit, eight that don't: each way is the rule's. Assumes nothing.
+-- Not eight bytes, eight bytes that fit, eight that don't: each way is the rule's.
 use native.Mathlib.Omega.{arith}
 use borrow.Author.Needs.{needs}
 use Rattle.event.proofs.Bytes.{ragged-refused, fitting-fine, unfit-refused}

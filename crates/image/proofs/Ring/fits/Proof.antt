@@ -1,4 +1,4 @@
--- The rule's two tests, as it makes them. Assumes nothing.
+-- The rule's two tests, as it makes them.
 use mathlib.Core.Path.{refl}
 use Rattle.image.proofs.Ring.fits.Statement.{statement}
 use Rattle.image.proofs.Ring.fits.Tie as tie

@@ -4,9 +4,9 @@ use Prim.Native.Nat.{_+_, _*_}
 use mathlib.Core.Path.{sym, ap, _∙_}
 use native.Mathlib.Omega.{arith}
 use lib.ListN.{set, length-set}
-use Rattle.machine.proofs.Fresh.{fresh-stores}
-use Rattle.machine.proofs.Refusals.{FreshFine, fresh-fine}
-use Rattle.refusal.proofs.Verdicts.{handed-on}
+use Rattle.machine.proofs.Image.Fresh.{fresh-stores}
+use Rattle.machine.proofs.Laws.Refusals.{FreshFine, fresh-fine}
+use Rattle.numbers.proofs.Verdicts.{handed-on}
 use Rattle.image.proofs.Laws.{fresh-refused, fresh-done}
 use Rattle.image.proofs.Ring.fresh.Statement.{statement}
 use Rattle.image.proofs.Ring.fresh.Tie as tie
@@ -17,7 +17,8 @@ fine : (c : tie.After-enum-told)
     FreshFine (a .n) (a .home) (a .image .now)
 fine c =
     let a = c .before .before .before .before .before .args in
-    fresh-fine (a .n) (a .home) (a .image .now) (sym (c .before .before .fresh-verdict .ensures) ∙ c .enum-told .given .1)
+    fresh-fine (a .n) (a .home) (a .image .now)
+    (sym (c .before .before .fresh-verdict .ensures) ∙ c .enum-told .given .1)
 
 returns : tie.Need-returns
 returns c =
@@ -61,7 +62,8 @@ returns-2 : tie.Need-returns-2
 returns-2 c =
     let v = c .before .before .before .before in
     let a = v .before .before .before .before .before .args in
-    fresh-done (a .n) (a .home) (a .image .now) _ (sym (v .before .before .fresh-verdict .ensures) ∙ v .enum-told .given .1)
+    fresh-done (a .n) (a .home) (a .image .now) _
+    (sym (v .before .before .fresh-verdict .ensures) ∙ v .enum-told .given .1)
     (ap (λ l. set (set l 0 (a .n)) (16 + 8 * a .home + 1) 1) (c .before .before .clear .ensures)
     ∙ fresh-stores (a .image .now) (a .n) (a .home) (fine v .below))
 

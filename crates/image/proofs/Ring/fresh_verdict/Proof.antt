@@ -2,7 +2,7 @@
 use mathlib.Core.Path.{sym, _∙_}
 use native.Mathlib.Omega.{arith}
 use borrow.Author.Tests.{not-true, not-false}
-use Rattle.machine.proofs.Refusals.{SizeFits, size-fits, fresh-no-size, fresh-no-home, fresh-short, fresh-whole}
+use Rattle.machine.proofs.Laws.Refusals.{SizeFits, size-fits, fresh-no-size, fresh-no-home, fresh-short, fresh-whole}
 use Rattle.image.proofs.Ring.fresh_verdict.Statement.{statement}
 use Rattle.image.proofs.Ring.fresh_verdict.Tie as tie
 

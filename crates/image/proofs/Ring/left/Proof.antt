@@ -1,7 +1,7 @@
--- Below n the remainder goes by cases: 0 has n − 1 on its left, any other its predecessor. Assumes nothing.
+-- Below n the remainder goes by cases: 0 has n − 1 on its left, any other its predecessor.
 use mathlib.Core.Path.{sym}
 use native.Mathlib.Omega.{arith}
-use Rattle.machine.proofs.Ring.{left-first, left-inner}
+use Rattle.machine.proofs.Laws.Ring.{left-first, left-inner}
 use Rattle.image.proofs.Ring.left.Statement.{statement}
 use Rattle.image.proofs.Ring.left.Tie as tie
 

@@ -1,7 +1,7 @@
--- Below n the remainder goes by cases: n − 1 has 0 on its right, any other its successor. Assumes nothing.
+-- Below n the remainder goes by cases: n − 1 has 0 on its right, any other its successor.
 use mathlib.Core.Path.{sym}
 use native.Mathlib.Omega.{arith}
-use Rattle.machine.proofs.Ring.{right-last, right-inner}
+use Rattle.machine.proofs.Laws.Ring.{right-last, right-inner}
 use Rattle.image.proofs.Ring.right.Statement.{statement}
 use Rattle.image.proofs.Ring.right.Tie as tie
 

@@ -1,4 +1,4 @@
--- The mark goes, and the marker off; a mark that stood was counted, so its count is above 0. Assumes nothing.
+-- The mark goes, and the marker off; a mark that stood was counted, so its count is above 0.
 use borrow.Author.Needs.{needs}
 use Rattle.reaction.proofs.Marks.{clear-few, clear-can, clear-made}
 use Rattle.reaction.proofs.put.clear.Statement.{statement}

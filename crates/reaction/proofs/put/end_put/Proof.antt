@@ -1,4 +1,4 @@
--- The put is over only if the envelope left. Assumes nothing.
+-- The put is over only if the envelope left.
 use mathlib.Core.Path.{_≡_, refl}
 use mathlib.Core.Bool.{false}
 use mathlib.Core.Logic.{_⊎_, inl, inr}

@@ -1,4 +1,4 @@
--- The stage is 0 and the outcome this one, and all else as it was. Assumes nothing.
+-- The stage is 0 and the outcome this one, and all else as it was.
 use borrow.Author.Needs.{needs}
 use Rattle.reaction.proofs.Stages.{ends-made}
 use Rattle.reaction.proofs.put.ends.Statement.{statement}

@@ -1,6 +1,6 @@
--- The markers are set first; by what they then say the envelope leaves or stays. Assumes nothing.
+-- The markers are set first; by what they then say the envelope leaves or stays.
 use borrow.Author.Needs.{needs}
-use Rattle.reaction.proofs.Forward.{heeding-tidy, forward-leaves, forward-stays}
+use Rattle.reaction.proofs.Forward.{markers-tidy, forward-leaves, forward-stays}
 use Rattle.reaction.proofs.put.forward.Statement.{statement}
 use Rattle.reaction.proofs.put.forward.Tie as tie
 
@@ -13,4 +13,4 @@ returns-2 c = search (needs, forward-stays)
 pub forward-spec : {M : Type 1} → statement M
 forward-spec =
     tie.close
-    (tie.spec (search needs) (search needs) (λ c κs. search (needs, heeding-tidy)) (search needs) returns returns-2)
+    (tie.spec (search needs) (search needs) (λ c κs. search (needs, markers-tidy)) (search needs) returns returns-2)

@@ -1,4 +1,4 @@
--- A mark that stands adds no bit and no count; a new one is counted, and its count has room. Assumes nothing.
+-- A mark that stands adds no bit and no count; a new one is counted, and its count has room.
 use Prim.Native.Nat.{_-_}
 use borrow.Author.Needs.{needs}
 use native.Mathlib.Omega.{arith}

@@ -1,4 +1,4 @@
--- What is wished or asked for by the right is asked for; what of it wasn't goes left. Assumes nothing.
+-- What is wished or asked for by the right is asked for; what of it wasn't goes left.
 use Prim.Native.Nat.{_<_}
 use borrow.Author.Needs.{needs}
 use native.Mathlib.Omega.{arith}

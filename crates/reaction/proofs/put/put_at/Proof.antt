@@ -1,4 +1,4 @@
--- Each arm of the decision is that arm of the rule, and the stages that no arm names do no more. Assumes nothing.
+-- Each arm of the decision is that arm of the rule, and the stages that no arm names do no more.
 use mathlib.Core.Logic.{⊎-elim}
 use borrow.Author.Needs.{needs}
 use native.Mathlib.Omega.{arith}

@@ -1,4 +1,4 @@
--- Without the envelope ask and pass; with the one waited for go on; with the other mark and forward. Assumes nothing.
+-- Without the envelope ask and pass; with the one waited for go on; with the other mark and forward.
 use borrow.Author.Needs.{needs}
 use borrow.Author.Tests.{not-true, not-false}
 use Rattle.reaction.proofs.Marks.{pair-few}

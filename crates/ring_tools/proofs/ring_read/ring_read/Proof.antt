@@ -1,4 +1,5 @@
--- With a short result slice the verdict of what is given decides alone; else the bytes filled, or the refusal, are told.
+-- With a short result slice the verdict of what is given decides alone; else the bytes filled, or the refusal, are
+-- told.
 use native.Mathlib.Omega.{arith}
 use Rattle.ring_tools.proofs.Ways.{read-short, filled-refused, filled-done}
 use Rattle.ring_tools.proofs.ring_read.ring_read.Statement.{statement}

@@ -1,4 +1,5 @@
--- With a short result slice the verdict of what is given decides alone; else the bytes filled, or the refusal, are told.
+-- With a short result slice the verdict of what is given decides alone; else the bytes filled, or the refusal, are
+-- told.
 use native.Mathlib.Omega.{arith}
 use Rattle.ring_tools.proofs.Ways.{write-short, filled-refused, filled-done}
 use Rattle.ring_tools.proofs.ring_write.ring_write.Statement.{statement}
@@ -7,7 +8,8 @@ use Rattle.ring_tools.proofs.ring_write.ring_write.Tie as tie
 returns : tie.Need-returns
 returns c =
     let a = c .before .before .before .before .before .before .args in
-    write-short (a .result .now) (omega arith) (a .n) (a .list .now) (a .output .now) (c .before .write-verdict .ensures)
+    write-short (a .result .now) (omega arith) (a .n) (a .list .now) (a .output .now)
+    (c .before .write-verdict .ensures)
     (c .short .ensures)
 
 returns-2 : tie.Need-returns-2

@@ -1,4 +1,4 @@
--- Nobody is marked where no set has a bit; a set of 64 has at most 64 ones, so no sum leaves its word. Assumes nothing.
+-- Nobody is marked where no set has a bit; a set of 64 has at most 64 ones, so no sum leaves its word.
 use native.Mathlib.Omega.{arith}
 use borrow.Author.Needs.{needs}
 use lib.Count.{ones-le}

@@ -1,4 +1,4 @@
--- Each field is computed as the definition writes it. Assumes nothing.
+-- Each field is computed as the definition writes it.
 use Rattle.sound.specs.Walk.{walkedOn}
 use native.Mathlib.Omega.{arith}
 use Rattle.sound.proofs.Walk.on.Statement.{statement}

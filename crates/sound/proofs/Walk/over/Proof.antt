@@ -1,4 +1,4 @@
--- With i records still to come the walk holds what the rules say of those behind them. Assumes nothing.
+-- With i records still to come the walk holds what the rules say of those behind them.
 use Prim.Native.Nat.{_+_, _-_, _≤_}
 use mathlib.Core.Path.{_≡_}
 use native.Mathlib.Omega.{arith}

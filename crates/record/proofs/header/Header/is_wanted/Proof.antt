@@ -1,4 +1,4 @@
--- The header is tested under the mask that its status chooses (Headers). Assumes nothing.
+-- The header is tested under the mask that its status chooses (Headers).
 use mathlib.Core.Logic.{⊎-elim, inl, inr}
 use borrow.Author.Needs.{needs}
 use Rattle.record.proofs.Headers.{wanted-by}

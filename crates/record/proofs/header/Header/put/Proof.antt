@@ -1,8 +1,8 @@
--- The second word is written where the first one ends. Assumes nothing.
+-- The second word is written where the first one ends.
 use borrow.Author.Needs.{needs}
 use native.Mathlib.Omega.{arith}
-use Rattle.machine.proofs.Bytes.{length-bytes}
-use Rattle.record.proofs.Laws.{stores-both}
+use Rattle.machine.proofs.Laws.Bytes.{length-bytes}
+use Rattle.little_endian.proofs.Laws.{stores-both}
 use Rattle.record.proofs.header.Header.put.Statement.{statement}
 use Rattle.record.proofs.header.Header.put.Tie as tie
 

@@ -1,7 +1,0 @@
--- Laws that the functions of this crate cite.
-pub mod Joined
-pub mod First
-pub mod Blocks
-pub mod Lengths
-pub mod Ways
-pub mod Together

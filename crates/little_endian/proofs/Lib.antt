@@ -1,0 +1,2 @@
+-- Laws that the functions of this crate, and those above it, cite.
+pub mod Laws

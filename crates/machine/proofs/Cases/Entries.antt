@@ -1,0 +1,129 @@
+-- Document 01's entries 1 to 9, as one group: each is true of the rules themselves, and the checker computes it.
+use Prim.Native.Nat.{ℕ, _+_, _*_}
+use mathlib.Core.Path.{_≡_, refl}
+use mathlib.Core.List.{List, [], _∷_, _++_}
+use lib.ListN.{drop, replicate}
+use Rattle.machine.specs.Bytes.{bytes}
+use Rattle.machine.specs.Lists.{join}
+use Rattle.machine.specs.Tape.{tapeOf, check, covered, blockCheck}
+use Rattle.machine.specs.Answers.{freshAnswer, freshImage, stepAnswer, stepImage, runAnswer, runImage}
+use Rattle.machine.specs.Answers.{runLedger, stoppedAnswer, writeAnswer, readAnswer}
+use Rattle.machine.specs.Text.{text}
+use Rattle.machine.specs.Report.{reportText}
+use Rattle.machine.proofs.Cases.Computed.{rules}
+use Rattle.machine.proofs.Cases.Case.{done, refused, event, copies}
+
+-- entry 1's events, in two halves
+unfoldable pub firstTen : List ℕ
+firstTen =
+    join
+    (event 1 0 7 ∷ event 1 3 0 ∷ event 1 7 0 ∷ event 0 6 0 ∷ event 0 7 0
+    ∷ event 1 4 0 ∷ event 1 7 0 ∷ event 1 2 0 ∷ event 1 3 0 ∷ event 1 7 0 ∷ [])
+
+unfoldable pub lastTen : List ℕ
+lastTen =
+    join
+    (event 0 1 0 ∷ event 0 3 0 ∷ event 0 7 0 ∷ event 1 5 0 ∷ event 1 7 0
+    ∷ event 0 4 0 ∷ event 0 7 0 ∷ event 0 2 0 ∷ event 0 3 0 ∷ event 0 7 0 ∷ [])
+
+-- the fresh ring of two processes with home 0, in a buffer whose bytes were all 255
+unfoldable pub ring : List ℕ
+ring = freshImage 2 0 (replicate 32 255)
+
+-- a ledger with a byte to spare
+unfoldable pub ledger : List ℕ
+ledger = replicate 49 255
+
+-- a ring of two in which process 1 has the envelope and may fill it with 7
+unfoldable pub mayFill : List ℕ
+mayFill = (2 ∷ replicate 15 0) ++ (replicate 8 0 ++ (3 ∷ 1 ∷ 0 ∷ 0 ∷ bytes 4 7))
+
+-- the whole list from the fresh ring: counts, ledger and stopped, and what ringrun prints
+pub entry-1 :
+    (runAnswer ring (tapeOf (firstTen ++ lastTen)) ledger ≡ done (1 ∷ 1 ∷ 1 ∷ 1 ∷ 1 ∷ 1 ∷ 0 ∷ 4 ∷ []))
+    × (runLedger ring (tapeOf (firstTen ++ lastTen)) ledger
+    ≡ (7 ∷ 0 ∷ 0 ∷ 0 ∷ 1 ∷ 2 ∷ 0 ∷ 0 ∷ 7 ∷ 0 ∷ 0 ∷ 0 ∷ [])
+    ++ ((14 ∷ 0 ∷ 0 ∷ 0 ∷ 1 ∷ 4 ∷ 0 ∷ 0 ∷ 0 ∷ 0 ∷ 0 ∷ 0 ∷ [])
+    ++ ((17 ∷ 0 ∷ 0 ∷ 0 ∷ 0 ∷ 3 ∷ 0 ∷ 0 ∷ 7 ∷ 0 ∷ 0 ∷ 0 ∷ [])
+    ++ (19 ∷ 0 ∷ 0 ∷ 0 ∷ 0 ∷ 5 ∷ 0 ∷ 0 ∷ 0 ∷ 0 ∷ 0 ∷ 0 ∷ 255 ∷ []))))
+    × (stoppedAnswer (runImage ring (tapeOf (firstTen ++ lastTen)) ledger) ≡ done (1 ∷ []))
+    × (reportText (2 ∷ 0 ∷ tapeOf (firstTen ++ lastTen))
+    ≡ text "7 1 fill 7\n14 1 sent 0\n17 0 take 7\n19 0 got 0\n"
+    ++ (text "puts 1 gets 1 fills 1 takes 1 sent 1 got 1 idle 0\n" ++ text "stopped\n"))
+unfolding rules ring ledger firstTen lastTen
+entry-1 = (refl, refl, refl, refl)
+
+-- its last image, all 32 bytes
+pub entry-2 :
+    runImage ring (tapeOf (firstTen ++ lastTen)) ledger
+    ≡ (2 ∷ replicate 15 0) ++ ((0 ∷ 1 ∷ 4 ∷ replicate 5 0) ++ replicate 8 0)
+unfolding rules ring ledger firstTen lastTen
+entry-2 = refl
+
+-- its first ten events only: stopped, and sent is 0
+pub entry-3 :
+    (stoppedAnswer (runImage ring (tapeOf firstTen) ledger) ≡ done (1 ∷ []))
+    × (runAnswer ring (tapeOf firstTen) ledger ≡ done (1 ∷ 0 ∷ 1 ∷ 0 ∷ 0 ∷ 0 ∷ 0 ∷ 1 ∷ []))
+    × (reportText (2 ∷ 0 ∷ tapeOf firstTen)
+    ≡ text "7 1 fill 7\n" ++ (text "puts 1 gets 0 fills 1 takes 0 sent 0 got 0 idle 0\n" ++ text "stopped\n"))
+unfolding rules ring ledger firstTen
+entry-3 = (refl, refl, refl)
+
+-- 1.7 on a fresh ring is idle and changes no byte
+pub entry-4 : (stepAnswer ring (event 1 7 0) ≡ done (0 ∷ 0 ∷ [])) × (stepImage ring (event 1 7 0) ≡ ring)
+unfolding rules ring
+entry-4 = (refl, refl)
+
+-- a second 1.0 after the first is idle, and the note (bytes 28 to 31) is still 7
+pub entry-5 :
+    (stepAnswer (stepImage ring (event 1 0 7)) (event 1 0 9) ≡ done (0 ∷ 0 ∷ []))
+    × (drop 28 (stepImage (stepImage ring (event 1 0 7)) (event 1 0 9)) ≡ 7 ∷ 0 ∷ 0 ∷ 0 ∷ [])
+unfolding rules ring
+entry-5 = (refl, refl)
+
+-- a tape whose only event is 1.0, message 7: the check's halves, over the covered bytes and as written
+pub entry-6 :
+    (check (covered (tapeOf (event 1 0 7)) 0) ≡ 9 + 65536 * 2255)
+    × (blockCheck (tapeOf (event 1 0 7)) 0 ≡ 9 + 65536 * 2255)
+unfolding rules
+entry-6 = (refl, refl)
+
+-- N = 64 is accepted and 65 refused 1, by the fresh ring, the writer and the reader
+pub entry-7 :
+    (freshAnswer 64 63 (replicate 528 0) ≡ done [])
+    × (freshAnswer 65 63 (replicate 536 0) ≡ refused 1 0)
+    × (writeAnswer 64 (event 63 0 7) (replicate 512 0) ≡ done (512 ∷ []))
+    × (writeAnswer 65 (event 63 0 7) (replicate 512 0) ≡ refused 1 0)
+    × (readAnswer 64 (tapeOf (event 63 0 7)) (replicate 8 0) ≡ done (8 ∷ []))
+    × (readAnswer 65 (tapeOf (event 63 0 7)) (replicate 8 0) ≡ refused 1 0)
+unfolding rules
+entry-7 = (refl, refl, refl, refl, refl, refl)
+
+-- a block that is full, and one event more, which takes a second
+pub entry-8 :
+    (writeAnswer 2 (copies 63 (event 1 7 0)) (replicate 1024 0) ≡ done (512 ∷ []))
+    × (writeAnswer 2 (copies 64 (event 1 7 0)) (replicate 1024 0) ≡ done (1024 ∷ []))
+unfolding rules
+entry-8 = (refl, refl)
+
+-- room for just one record, and a byte too little for it
+pub entry-9 :
+    (runAnswer mayFill (tapeOf (event 1 2 0)) (replicate 12 0) ≡ done (0 ∷ 0 ∷ 1 ∷ 0 ∷ 0 ∷ 0 ∷ 0 ∷ 1 ∷ []))
+    × (runLedger mayFill (tapeOf (event 1 2 0)) (replicate 12 0) ≡ 0 ∷ 0 ∷ 0 ∷ 0 ∷ 1 ∷ 2 ∷ 0 ∷ 0 ∷ 7 ∷ 0 ∷ 0 ∷ 0 ∷ [])
+    × (runAnswer mayFill (tapeOf (event 1 2 0)) (replicate 11 0) ≡ refused 10 0)
+unfolding rules mayFill
+entry-9 = (refl, refl, refl)
+
+-- ---- beside them: the sums of words on the published strings of the Fletcher-32 checksum
+
+pub fletcher-abcde : check (97 ∷ 98 ∷ 99 ∷ 100 ∷ 101 ∷ []) ≡ 0xF04FC729
+unfolding rules
+fletcher-abcde = refl
+
+pub fletcher-abcdef : check (97 ∷ 98 ∷ 99 ∷ 100 ∷ 101 ∷ 102 ∷ []) ≡ 0x56502D2A
+unfolding rules
+fletcher-abcdef = refl
+
+pub fletcher-abcdefgh : check (97 ∷ 98 ∷ 99 ∷ 100 ∷ 101 ∷ 102 ∷ 103 ∷ 104 ∷ []) ≡ 0xEBE19591
+unfolding rules
+fletcher-abcdefgh = refl

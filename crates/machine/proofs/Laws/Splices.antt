@@ -1,0 +1,91 @@
+-- Parts of a buffer beside what is written over it, and splices apart from each other: either may come first.
+use Prim.Native.Nat.{ℕ, zero, suc, _+_, _-_, _≤_}
+use mathlib.Core.Path.{_≡_, refl, sym, ap, ap₂, _∙_}
+use mathlib.Core.List.{List, [], _∷_, _++_}
+use native.Mathlib.Omega.{arith}
+use lib.ListN.{length, take, drop, length-drop, take-append-drop}
+use lib.Seq.{take-append-le, drop-append-le, drop-at, take-append-seam, length-take-le, take-take, drop-drop}
+use Rattle.machine.specs.Bytes.{part, splice}
+use Rattle.machine.proofs.Laws.Bytes.{splice-right, splice-whole}
+
+-- ---- parts
+
+-- of the first bytes
+part-of-first : (s : List ℕ) (w at v : ℕ) → at + v ≤ w → part (take w s) at v ≡ part s at v
+part-of-first s w zero v h = take-take v w s (omega arith)
+part-of-first s zero (suc at) v h = absurd (omega arith)
+part-of-first [] (suc w) (suc at) v h = refl
+part-of-first (x ∷ s) (suc w) (suc at) v h = part-of-first s w at v (omega arith)
+
+-- of a part
+pub part-part : (s : List ℕ) (x w at v : ℕ) → at + v ≤ w → part (part s x w) at v ≡ part s (x + at) v
+part-part s x w at v h = part-of-first (drop x s) w at v h ∙ ap (take v) (drop-drop at x s)
+
+-- of the first of two lists
+pub part-front : (a b : List ℕ) (at v : ℕ) → at + v ≤ length a → part (a ++ b) at v ≡ part a at v
+part-front a b at v h =
+    rw (drop-append-le at a b (omega arith))
+    (take-append-le v (drop at a) b (rw (length-drop at a) (omega arith)))
+
+module _ (s : List ℕ) (at : ℕ) (bs : List ℕ) (h : at ≤ length s) where
+  long : length (take at s) ≡ at
+  long = length-take-le at s h
+
+  -- before what is written
+  pub part-before : (k w : ℕ) → k + w ≤ at → part (splice s at bs) k w ≡ part s k w
+  unfolding splice
+  part-before k w before =
+      part-front (take at s) (bs ++ drop (at + length bs) s) k w (omega (arith, long))
+      ∙ part-of-first s at k w before
+
+  -- just what is written
+  pub part-written : part (splice s at bs) at (length bs) ≡ bs
+  unfolding splice
+  part-written =
+      let rest = drop (at + length bs) s in
+      ap (take (length bs)) (drop-at (take at s) (bs ++ rest) at long) ∙ take-append-seam bs rest
+
+-- ---- splices
+
+-- the first over q, the second somewhere in r
+apart : (p q r a b : List ℕ) (m : ℕ) → length a ≡ length q
+    → splice (splice (p ++ (q ++ r)) (length p + (length q + m)) b) (length p + 0) a
+    ≡ splice (splice (p ++ (q ++ r)) (length p + 0) a) (length p + (length q + m)) b
+apart p q r a b m same =
+    let there : length p + (length q + m) ≡ length p + (length a + m) = omega arith in
+    rw (
+      splice-right p (q ++ r) (length q + m) b,
+      splice-right q r m b,
+      splice-right p (q ++ splice r m b) 0 a,
+      splice-whole q (splice r m b) a same,
+      splice-right p (q ++ r) 0 a,
+      splice-whole q r a same,
+      there,
+      splice-right p (a ++ r) (length a + m) b,
+      splice-right a r m b,
+    )
+
+pub splice-apart : (s : List ℕ) (at : ℕ) (a : List ℕ) (k : ℕ) (b : List ℕ) → at + length a ≤ k → k ≤ length s
+    → splice (splice s k b) at a ≡ splice (splice s at a) k b
+splice-apart s at a k b before within =
+    let p = take at s in
+    let q = take (length a) (drop at s) in
+    let r = drop (length a) (drop at s) in
+    let m = k - (at + length a) in
+    let long-p : length p ≡ at = length-take-le at s (omega arith) in
+    let long-q : length q ≡ length a =
+    length-take-le (length a) (drop at s) (rw (length-drop at s) (omega arith)) in
+    let whole : s ≡ p ++ (q ++ r) =
+    sym (ap (λ (l : List ℕ). p ++ l) (take-append-drop (length a) (drop at s)) ∙ take-append-drop at s) in
+    let here : at ≡ length p + 0 = omega arith in
+    let there : k ≡ length p + (length q + m) = omega arith in
+    ap (λ (l : List ℕ). splice (splice l k b) at a) whole
+    ∙ ap₂ (λ (i j : ℕ). splice (splice (p ++ (q ++ r)) j b) i a) here there
+    ∙ apart p q r a b m (sym long-q)
+    ∙ sym (ap₂ (λ (i j : ℕ). splice (splice (p ++ (q ++ r)) i a) j b) here there)
+    ∙ sym (ap (λ (l : List ℕ). splice (splice l at a) k b) whole)
+
+-- nothing is written
+pub splice-none : (s : List ℕ) (at : ℕ) → s ≡ splice s at []
+unfolding splice
+splice-none s at = let e : at + 0 ≡ at = omega arith in rw e (sym (take-append-drop at s))

@@ -1,3 +1,0 @@
--- Laws that the functions of this crate cite.
-pub mod Spare
-pub mod Room

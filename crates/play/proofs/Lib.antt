@@ -1,2 +1,0 @@
--- Laws that the functions of this crate cite.
-pub mod Going

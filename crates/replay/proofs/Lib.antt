@@ -1,0 +1,4 @@
+-- Laws that the functions of this crate cite.
+pub mod Progress
+pub mod Spare
+pub mod Room

@@ -1,0 +1,84 @@
+// The events of an accepted tape, performed on an accepted image, with their records in the ledger: a tape's replay.
+// And whether a ledger has room for the records: known at once where it has room for a record an event, else counted on
+// a spare copy of the image, so that nothing lent has changed when a run is refused. Document 01, "The run".
+use little_endian::wide;
+use machine::Counts;
+use span::copy;
+use turns::turns;
+ghost use mathlib.Core.Path.{_≡_};
+ghost use lib.Dec.{leb};
+ghost use lib.ListN.{length};
+ghost use Rattle.machine.specs.Image.{stateIn, imageWith};
+ghost use Rattle.machine.specs.Run.{noCounts, countsFrom, after};
+ghost use Rattle.machine.specs.Answers.{runEvents, runRecords};
+ghost use Rattle.replay.specs.Playable.{Playable, Recorded};
+
+// Internal: every event of the tape, one after the other. The ledger gets their records where it has room for all. Each
+// turn of the loop is a block: its events, 63 or what is left, stand 8 bytes apart, and 8 bytes stand before them.
+pub fn replay(image: &mut [u8], tape: &[u8], events: usize, ledger: &mut [u8]) -> Counts
+    requires { ⌜ Playable (now image) (now tape) events ⌝ }
+    ensures answer { λ r. ⌜ r
+        ≡ countsFrom noCounts (stateIn (now (image .entry))) (runEvents (now (tape .entry))) ⌝ }
+    ensures buffer { λ _. ⌜ now (image .exit)
+        ≡ imageWith (now (image .entry)) (after (stateIn (now (image .entry))) (runEvents (now (tape .entry)))) ⌝ }
+    ensures records { λ _. ⌜ Recorded (runRecords (now (image .entry)) (now (tape .entry))) (now (ledger .entry))
+        (now (ledger .exit)) ⌝ }
+{
+    let mut counts = Counts {
+        puts: 0,
+        gets: 0,
+        fills: 0,
+        takes: 0,
+        sent: 0,
+        got: 0,
+        idle: 0,
+        records: 0,
+    };
+    let mut at = 0;
+    let mut k = 0;
+    while k < events {
+        let most = k + 63;
+        let end = if events < most { events } else { most };
+        at += 8;
+        let block = turns(
+            image,
+            tape,
+            at,
+            k,
+            end,
+            ledger,
+            12 * counts.records as usize,
+        );
+        counts = block.added_to(counts);
+        at += 8 * (end - k);
+        k = end;
+    }
+    counts
+}
+
+// How many records the events of the tape have, performed on a copy of the image, with a ledger that takes none.
+fn measure(image: &[u8], tape: &[u8], events: usize) -> u64
+    requires { ⌜ Playable (now image) (now tape) events ⌝ }
+    ensures { λ r. ⌜ r
+        ≡ countsFrom noCounts (stateIn (now (image .entry))) (runEvents (now (tape .entry))) .records ⌝ }
+{
+    let mut spare = [0u8; 528];
+    let mut none = [0u8; 1];
+    let length = 16 + 8 * wide(image[0]);
+    copy(image, 0, &mut spare, 0, length);
+    let counts = replay(&mut spare, tape, events, &mut none);
+    counts.records
+}
+
+// Internal: whether a ledger of so many bytes has room for the records of the run, 12 bytes each.
+pub fn has_room(image: &[u8], tape: &[u8], events: usize, bytes: usize) -> bool
+    requires { ⌜ Playable (now image) (now tape) events ⌝ }
+    ensures { λ r. ⌜ r ≡ leb (length (runRecords (now (image .entry)) (now (tape .entry)))) bytes ⌝ }
+{
+    let room = bytes / 12;
+    if events <= room {
+        return true;
+    }
+    let records = measure(image, tape, events);
+    records <= room as u64
+}
