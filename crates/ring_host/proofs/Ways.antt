@@ -106,8 +106,7 @@ module _ (image tape ledger result : List ℕ) where
           → n ≡ numberOf r
           → u ≡ splice result 0 (resultBytes (placeOf r ∷ []))
           → Ran n t l u
-      run-refused {r =
-          r} is found number wrote =
+      run-refused {r = r} is found number wrote =
           ran (refused-told result room r (rw (found ∙ ap run.refusalOf is) (sym (ap run.inNumbers is) ∙ says))
           number wrote)
 
@@ -133,8 +132,7 @@ module _ (image result : List ℕ) where
         → n ≡ numberOf r
         → u ≡ splice result 0 (resultBytes (placeOf r ∷ []))
         → Tells (stoppedAnswer image) result n u
-    stopped-refused {r =
-        r} is found number wrote =
+    stopped-refused {r = r} is found number wrote =
         refused-told result room r (rw (found ∙ ap stopped.refusalOf is) (sym (ap stopped.inNumbers is) ∙ says))
         number wrote
 

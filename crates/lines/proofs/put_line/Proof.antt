@@ -35,21 +35,17 @@ decimal-field-requires-3 c κs =
 
 returns : tie.Need-returns
 returns c =
-    let n =
-    c .before .before .before .before .before .before .before .before .before .before .before .before .before .before
-    .before .before in
+    let message = c .before .before in
+    let code = message .before .before .before .before in
+    let process = code .before .before .before .before in
+    let event = process .before .before .before .before in
+    let n = event .before .before in
     let a = n .before .before .before .before .before .before .before .args in
     let e = n .before .before .before .before .number-at .result in
     let p = n .before .before .wide64 .result in (
       record-lined (a .ledger .now) (a .k) (n .before .before .before .before .number-at .ensures)
-          (n .before .before .wide64 .ensures .0) refl
-          (n .number-at2 .ensures)
-          (c .before .before .before .before .before .before .before .before .before .before .before .before .before
-          .before .decimal-field .ensures .0)
-          (c .before .before .before .before .before .before .before .before .before .before .decimal-field2 .ensures
-          .0)
-          (c .before .before .before .before .before .before .put-code .ensures .0)
-          (c .before .before .decimal-field3 .ensures .0),
+          (n .before .before .wide64 .ensures .0) refl (n .number-at2 .ensures) (event .decimal-field .ensures .0)
+          (process .decimal-field2 .ensures .0) (code .put-code .ensures .0) (message .decimal-field3 .ensures .0),
       omega (arith, few-digits e p (n .number-at2 .result) (omega arith) (omega arith) (omega arith)),
     )
 

@@ -26,16 +26,15 @@ decimal-field-requires-2 c κs =
 returns : tie.Need-returns
 unfolding text
 returns c =
-    refusal-lined
-    (c .before .before .before .before .before .before .before .before .before .before .before .before .before .before
-    .before .before .before .before .before .before .before .args .refusal)
-    (c .before .before .before .before .before .before .before .before .before .before .before .before .before
-    .number-of .ensures) (c .before .before .before .place-of .ensures)
-    (c .before .before .before .before .before .before .before .before .before .before .before .before .before .before
-    .before .before .before .text-field .ensures .0)
-    (c .before .before .before .before .before .before .before .before .before .before .before .before .decimal-field
-    .ensures .0) (c .before .before .before .before .before .before .before .text-field2 .ensures .0)
-    (c .before .before .decimal-field2 .ensures .0)
+    let last = c .before .before in
+    let place = last .before in
+    let at = place .before .before .before .before in
+    let number = at .before .before .before .before .before in
+    let of = number .before in
+    let refused = of .before .before .before .before in
+    refusal-lined (refused .before .before .before .before .args .refusal) (of .number-of .ensures) (place .place-of .ensures)
+    (refused .text-field .ensures .0) (number .decimal-field .ensures .0) (at .text-field2 .ensures .0)
+    (last .decimal-field2 .ensures .0)
 
 pub put-refusal-spec : {M : Type 1} → statement M
 put-refusal-spec =

@@ -1,4 +1,5 @@
--- Laws of verdicts: what an accepted input is known to have, and each way in which an image or a fresh ring is refused.
+-- Laws of verdicts: tests in a row, what an accepted input is known to have, and each way in which an image or a fresh
+-- ring is refused.
 use Prim.Native.Nat.{ℕ, _+_, _≤_, _<_}
 use mathlib.Core.Path.{_≡_, refl, sym, _∙_}
 use mathlib.Core.Bool.{Bool, true, false, _&&_, _||_}
@@ -35,20 +36,6 @@ number-range (refusal.Block b) = (lit≤ tt, lit≤ tt)
 number-range (refusal.Unused b) = (lit≤ tt, lit≤ tt)
 number-range refusal.Output = (lit≤ tt, lit≤ tt)
 
--- ---- what an accepted input is known to have
-
-pub unless-fine : (b : Bool) (r : Refusal) → unless b r ≡ Fine → b ≡ true
-unless-fine true r e = refl
-unless-fine false r e = absurd (let z : _≡_ {A = ℕ} 0 1 = cc in omega arith)
-
-pub first-fine : (v w : Verdict) → orElse v w ≡ Fine → v ≡ Fine
-first-fine Fine w e = refl
-first-fine (Refused r) w e = e
-
-pub second-fine : (v w : Verdict) → orElse v w ≡ Fine → w ≡ Fine
-second-fine Fine w e = e
-second-fine (Refused r) w e = absurd (let z : _≡_ {A = ℕ} 0 1 = cc in omega arith)
-
 -- ---- tests in a row, as code makes them: x is what it found for the rule's u
 
 pub refused-first : {x u : Verdict} {r : Refusal} (w : Verdict) → x ≡ u → x ≡ Refused r → x ≡ orElse u w
@@ -78,6 +65,20 @@ module _ (u v : Verdict) (needed : ℕ) (output : List ℕ) where
   pub all-fine : orElse u v ≡ Fine → needed ≤ length output → inTurn ≡ Fine
   unfolding outputVerdict
   all-fine e room = else-else u v (outputVerdict needed output) ∙ rw (e, le-leb needed (length output) room)
+
+-- ---- what an accepted input is known to have
+
+pub unless-fine : (b : Bool) (r : Refusal) → unless b r ≡ Fine → b ≡ true
+unless-fine true r e = refl
+unless-fine false r e = absurd (let z : _≡_ {A = ℕ} 0 1 = cc in omega arith)
+
+pub first-fine : (v w : Verdict) → orElse v w ≡ Fine → v ≡ Fine
+first-fine Fine w e = refl
+first-fine (Refused r) w e = e
+
+pub second-fine : (v w : Verdict) → orElse v w ≡ Fine → w ≡ Fine
+second-fine Fine w e = e
+second-fine (Refused r) w e = absurd (let z : _≡_ {A = ℕ} 0 1 = cc in omega arith)
 
 unless-le : (a b : ℕ) (r : Refusal) → unless (leb a b) r ≡ Fine → a ≤ b
 unless-le a b r e = leb-true a b (unless-fine (leb a b) r e)

@@ -61,23 +61,22 @@ put-ran-requires c κs =
 
 returns-3 : tie.Need-returns-3
 returns-3 c =
-    let g =
-    c .before .before .before .before .before .before .before .before .before .before .before .before .before .before
-    .before .before in
+    let says = c .before .before .before .before .before in
+    let rest = says .before .before .before in
+    let ran = rest .before .before .before in
+    let g = ran .before .before .before .before .before in
     let start = g .before .before .before .before .before .before in
     let image = start .args .image .now in
     let tape = start .args .tape .now in
     let fine = start .pre .0 in
     let few = start .pre .1 in
-    let is-done =
-    c .before .before .before .before .before .before .before .before .before .before .before .ran .given .1 in
-    let rest = c .before .before .before .before .before .before .before .before .stopped in
+    let is-done = ran .ran .given .1 in
     let ends =
     stopped-says image tape blank fine few (zeros-room 48384) _ (g .run .ensures .0) is-done
     (λ k. omega (arith, g .before .before .before .before .before .slice-known .given k))
     (λ k. omega (arith, g .before .before .before .before .shared-slice-known .given k))
-    (g .run .ensures .1 .0) (rest .result) (rest .ensures) false
-    (ap inNumbers (c .before .before .before .before .before .enum-told3 .given .1)) in
+    (g .run .ensures .1 .0) (rest .stopped .result) (rest .stopped .ensures) false
+    (ap inNumbers (says .enum-told3 .given .1)) in
     piece-is
     (run-done image tape blank fine few (zeros-room 48384) _ (g .run .ensures .0) is-done
     (λ k. omega (arith, g .before .before .before .before .before .slice-known .given k))
@@ -100,22 +99,22 @@ put-ran-requires-2 c κs =
 
 returns-4 : tie.Need-returns-4
 returns-4 c =
-    let g =
-    c .before .before .before .before .before .before .before .before .before .before .before .before .before .before
-    .before in
+    let says = c .before .before .before .before .before in
+    let rest = says .before .before in
+    let ran = rest .before .before .before in
+    let g = ran .before .before .before .before .before in
     let start = g .before .before .before .before .before .before in
     let image = start .args .image .now in
     let tape = start .args .tape .now in
     let fine = start .pre .0 in
     let few = start .pre .1 in
-    let is-done = c .before .before .before .before .before .before .before .before .before .before .ran .given .1 in
-    let rest = c .before .before .before .before .before .before .before .stopped in
+    let is-done = ran .ran .given .1 in
     let ends =
     stopped-says image tape blank fine few (zeros-room 48384) _ (g .run .ensures .0) is-done
     (λ k. omega (arith, g .before .before .before .before .before .slice-known .given k))
     (λ k. omega (arith, g .before .before .before .before .shared-slice-known .given k))
-    (g .run .ensures .1 .0) (rest .result) (rest .ensures) true
-    (ap inNumbers (c .before .before .before .before .before .enum-told2 .given .1)) in
+    (g .run .ensures .1 .0) (rest .stopped .result) (rest .stopped .ensures) true
+    (ap inNumbers (says .enum-told2 .given .1)) in
     piece-is
     (run-done image tape blank fine few (zeros-room 48384) _ (g .run .ensures .0) is-done
     (λ k. omega (arith, g .before .before .before .before .before .slice-known .given k))
