@@ -32,9 +32,9 @@ returns c =
     let number = at .before .before .before .before .before in
     let of = number .before in
     let refused = of .before .before .before .before in
-    refusal-lined (refused .before .before .before .before .args .refusal) (of .number-of .ensures) (place .place-of .ensures)
-    (refused .text-field .ensures .0) (number .decimal-field .ensures .0) (at .text-field2 .ensures .0)
-    (last .decimal-field2 .ensures .0)
+    refusal-lined (refused .before .before .before .before .args .refusal) (of .number-of .ensures)
+    (place .place-of .ensures) (refused .text-field .ensures .0) (number .decimal-field .ensures .0)
+    (at .text-field2 .ensures .0) (last .decimal-field2 .ensures .0)
 
 pub put-refusal-spec : {M : Type 1} → statement M
 put-refusal-spec =
