@@ -18,11 +18,12 @@ use Rattle.machine.specs.Stopped.{stopped, Stopped}
 use Rattle.machine.specs.Run.{countsFrom, noCounts, after}
 use Rattle.machine.specs.Balance.{filledFrom, takenFrom, ownMessage, Totals, totalsOf, totalsFrom, onRing}
 use Rattle.machine.specs.Alone.{PutEnded, EndsAlone, OncePutEnded, NoStopWithoutTake, StoppedOnceTaken}
+use Rattle.machine.specs.Alone.{NoStopWithoutGet}
 use Rattle.machine.proofs.Cases.Computed.{rules}
 use Rattle.machine.proofs.Image.Fresh.{length-fresh}
 use Rattle.machine.proofs.Stopped.{stopped-means}
 use Rattle.machine.proofs.Runs.{length-after}
-use Rattle.machine.proofs.Tallies.{sent-add}
+use Rattle.machine.proofs.Tallies.{gets-add, sent-add}
 use Rattle.machine.proofs.Balance.Clauses.{Invariant}
 use Rattle.machine.proofs.Balance.Kept.{events-kept}
 use Rattle.machine.proofs.Balance.Still.{refuted}
@@ -194,3 +195,19 @@ not-stopped-without-take n home two few below vs on-ring put-ended ws then-on-ri
     let end = after (after (freshState n home) vs) ws in
     refuted (stopped end)
     (λ yes. no-stop-without-take n home two few below vs on-ring put-ended ws then-on-ring none (stopped-means end yes))
+
+-- ---- no stop without a get
+
+-- more puts have ended than gets were started, and ends are never fewer; when it is stopped as many gets have ended, and
+-- no more end than start: so one has been started since
+pub no-stop-without-get : NoStopWithoutGet
+unfolding totalsFrom
+no-stop-without-get n home two few below vs on-ring alone ws then-on-ring none halt =
+    let fresh = freshState n home in
+    let st = after fresh vs in
+    let c = countsFrom noCounts fresh vs in
+    let kept =
+    events-kept ws st c (filledFrom fresh vs) (takenFrom fresh vs) (reached n home two few below vs on-ring)
+    (rw (length-after vs fresh, length-fresh n home) then-on-ring) in
+    let pairs = ended (after st ws) _ kept halt in
+    omega (arith, alone .more-sent, sent-add ws st c, gets-add ws st c, none, pairs .0, pairs .1)

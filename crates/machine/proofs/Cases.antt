@@ -5,3 +5,4 @@ pub mod Entries
 pub mod Events
 pub mod Edges
 pub mod Boundaries
+pub mod Counts

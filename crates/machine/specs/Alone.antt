@@ -58,14 +58,18 @@ pub record EndsAlone (n home : ℕ) (crosses outlives ends : List Event) : Type 
 
 -- ---- not stopped until a get has taken the message
 
--- what holds of every ring that a list of events comes to, full and with its put ended, and of every further list of
--- events from there
-abbrev pub OncePutEnded : (State → List Event → Type 0) → Type 0
-OncePutEnded P =
+-- what holds of every ring that a list of events comes to, if Q holds of it and of what was counted so far, and of every
+-- further list of events from there
+abbrev pub Thereafter : (State → Totals → Type 0) → (State → List Event → Type 0) → Type 0
+Thereafter Q P =
     (n home : ℕ) → least ≤ n → n ≤ most → home < n → (vs : List Event) → onRing n vs ≡ true
-    → PutEnded (after (freshState n home) vs)
+    → Q (after (freshState n home) vs) (totalsFrom (freshState n home) vs)
     → (ws : List Event) → onRing n ws ≡ true
     → P (after (freshState n home) vs) ws
+
+-- full and with its put ended
+abbrev pub OncePutEnded : (State → List Event → Type 0) → Type 0
+OncePutEnded P = Thereafter (λ st t. PutEnded st) P
 
 -- events that take nothing leave it not stopped
 abbrev pub NoStopWithoutTake : Type 0
@@ -76,3 +80,8 @@ abbrev pub StoppedOnceTaken : Type 0
 StoppedOnceTaken =
     OncePutEnded
     (λ st ws. Stopped (after st ws) → (later : List ℕ) × (takenFrom st ws ≡ st .envelope .message ∷ later))
+
+-- once a put has ended alone no get that was started is left to take the message: events that start none leave it not
+-- stopped
+abbrev pub NoStopWithoutGet : Type 0
+NoStopWithoutGet = Thereafter EndedAlone (λ st ws. totalsFrom st ws .gets ≡ 0 → Stopped (after st ws) → ⊥)

@@ -35,7 +35,7 @@ module _ (P : Process → Type 0) (one : P blank) (other : P (withHave true blan
   each-set (suc n) (suc home) (suc i) = each-set n home i
 
   -- blank, or blank with the envelope
-  each-fresh : (n home i : ℕ) → P (processAt (freshState n home .processes) i)
+  pub each-fresh : (n home i : ℕ) → P (processAt (freshState n home .processes) i)
   unfolding freshState
   each-fresh n home i = each-set n home i
 
