@@ -16,7 +16,7 @@ use Rattle.machine.specs.Fresh.{freshEnvelope, freshState}
 use Rattle.machine.specs.Stopped.{stopped}
 use Rattle.machine.specs.Balance.{Totals}
 use Rattle.machine.specs.Refusals.{imageVerdict}
-use Rattle.machine.specs.Answers.{Answer, freshVerdict, freshImage, stoppedAnswer}
+use Rattle.machine.specs.Answers.{Answer, answer, freshVerdict, freshImage, stoppedAnswer}
 use Rattle.machine.proofs.Laws.Bits.{bit-on}
 use Rattle.machine.proofs.Soundness.Octets.{written-bytes}
 use Rattle.machine.proofs.Laws.Refusals.{fresh-whole}
@@ -72,12 +72,16 @@ calls-kept n (c ∷ calls) image t bytes before =
 
 -- ---- what is promised
 
--- a yes means that the ring is stopped
-says-stopped : (image : List ℕ) → imageVerdict image ≡ Fine → SaysStopped image → stopped (stateIn image) ≡ true
-unfolding stoppedAnswer
-says-stopped image fine says =
-    let yes : bit (stopped (stateIn image)) ≡ 1 = ap (λ (a : Answer). value a 0) (rw fine at says) in
-    bit-on (stopped (stateIn image)) (omega arith)
+module _ (image : List ℕ) (fine : imageVerdict image ≡ Fine) where
+  -- the stopped call is not refused: 1 for yes, 0 for no
+  pub told-flag : stoppedAnswer image ≡ answer Fine (bit (stopped (stateIn image)) ∷ [])
+  unfolding stoppedAnswer
+  told-flag = rw fine
+
+  -- a yes means that the ring is stopped
+  pub says-stopped : SaysStopped image → stopped (stateIn image) ≡ true
+  says-stopped says =
+      bit-on (stopped (stateIn image)) (omega (arith, ap (λ (a : Answer). value a 0) (sym told-flag ∙ says)))
 
 -- by any claim that the ring is stopped, if it means a yes
 pub promised : (IsStopped : List ℕ → Type 0) (n : ℕ) (image : List ℕ) (t : Totals) → Reached n image t
@@ -95,19 +99,15 @@ promised IsStopped n image t here means =
 
 module _ (n home : ℕ) (two : least ≤ n) (few : n ≤ most) (below : home < n) (buffer : List ℕ) (small : Bytes buffer)
     (room : imageLength n ≤ length buffer) (calls : List Call) (bytes : GivenBytes calls) where
-  -- the image after the list
-  abbrev pub last : List ℕ
+  -- the image after the list: it is accepted, and byte 0 is still n
+  abbrev last : List ℕ
   last = imageAfterAll (freshImage n home buffer) calls
 
-  all-reached : Reached n last (shownByAll (freshImage n home buffer) calls)
+  pub all-reached : Reached n last (shownByAll (freshImage n home buffer) calls)
   all-reached =
       let first = freshImage n home buffer in
       subst (Reached n last) (nothing-plus (shownByAll first calls))
       (calls-kept n calls first nothing bytes (fresh-reached n home two few below buffer small room))
-
-  -- it is accepted, and byte 0 is still n: so a stopped call is never refused
-  pub always-accepted : (imageVerdict last ≡ Fine) × (sizeIn last ≡ n)
-  always-accepted = (all-reached .fine, all-reached .size)
 
 pub demand-three : ThirdDemand
 demand-three n home two few below buffer small room calls bytes =

@@ -1,4 +1,4 @@
--- The third demand, proved.
+-- The third demand, proved, and what the stopped call says.
 pub mod Flags
 pub mod Messages
 pub mod Ledger
@@ -7,3 +7,4 @@ pub mod Calls
 pub mod Demand
 pub mod Witness
 pub mod Suite
+pub mod Standstill

@@ -14,8 +14,9 @@ use Rattle.machine.specs.declared.Outcome.{Outcome}
 use Rattle.machine.specs.declared.Outcome.the-variants.{Idle, Moved, Fill, Take, Sent, Got}
 use Rattle.machine.specs.declared.Verdict.{Verdict}
 use Rattle.machine.specs.declared.Verdict.the-variants.{Fine, Refused}
-use Rattle.machine.specs.Bytes.{Bytes, bit}
+use Rattle.machine.specs.Bytes.{Bytes, bit, number}
 use Rattle.machine.specs.Lists.{tabulate}
+use Rattle.machine.specs.Ring.{least, most, imageLength}
 use Rattle.machine.specs.Image.{sizeIn, stateIn}
 use Rattle.machine.specs.Events.{outcome}
 use Rattle.machine.specs.Stopped.{stopped}
@@ -25,7 +26,7 @@ use Rattle.machine.specs.Tape.{eventIn}
 use Rattle.machine.specs.Refusals.{numberOf, codes, imageVerdict, tapeVerdict}
 use Rattle.machine.specs.Answers.{Answer, answer, freshImage, outcomeValues, stepVerdict, stepAnswer, stepImage}
 use Rattle.machine.specs.Answers.{runEvents, runVerdict, runAnswer, runImage, runLedger, stoppedAnswer}
-use Rattle.machine.specs.Host.{lentWith}
+use Rattle.machine.specs.Host.{returned, resultAfter, lentWith}
 use Rattle.machine.proofs.Laws.Bytes.{lt-or-ge, number-lt}
 use Rattle.machine.proofs.Laws.Bits.{bit-le}
 use Rattle.machine.proofs.Image.Stored.{length-state}
@@ -46,7 +47,7 @@ use Rattle.calls.specs.Suite.{TellsStopped, SuiteDemand}
 use Rattle.calls.proofs.Messages.{outcome-small}
 use Rattle.calls.proofs.Shown.{plus-nothing, nothing-plus, plus-assoc, step-refused, run-refused}
 use Rattle.calls.proofs.Calls.{Reached, unchanged, call-kept}
-use Rattle.calls.proofs.Demand.{fresh-reached, promised}
+use Rattle.calls.proofs.Demand.{fresh-reached, told-flag, promised}
 
 -- ---- the answer as the host has it
 
@@ -184,35 +185,48 @@ host-calls-kept n (c ∷ calls) image t bytes before =
 
 -- ---- the demand
 
--- a host that reads 1 was answered yes
+-- what a host is told of an accepted image
 module _ (image : List ℕ) (fine : imageVerdict image ≡ Fine) where
   -- 1 for yes, 0 for no
   abbrev flag : ℕ
   flag = bit (stopped (stateIn image))
 
-  the-answer : stoppedAnswer image ≡ answer Fine (flag ∷ [])
-  unfolding stoppedAnswer
-  the-answer = rw fine
-
-  tells-stopped : TellsStopped image → SaysStopped image
+  -- with at least 80 bytes it is told the call's own answer
+  pub word-read : (result : List ℕ) → 80 ≤ length result
+      → (returned (stoppedAnswer image) result ≡ 0) × (number (resultAfter (stoppedAnswer image) result) 0 8 ≡ flag)
   unfolding tabulate
+  word-read result room =
+      let fits : flag < 2 ^ 64 = omega (arith, bit-le (stopped (stateIn image))) in
+      let read =
+      ap (λ (a : Answer). hostAnswer a result) (told-flag image fine)
+      ∙ done-read (flag ∷ []) (lit≤ tt) result room (one fits none) in
+      (ap (λ (a : Answer). a .number) read, ap (λ (a : Answer). value a 0) read)
+
+  -- a host that reads 1 was answered yes
+  tells-stopped : TellsStopped image → SaysStopped image
   tells-stopped (result, zero, reads) = go (lt-or-ge (length result) 80)
     where
       go : (length result < 80) ⊎ (80 ≤ length result) → SaysStopped image
       go (inl short) =
           let ten = short-told result short Fine (flag ∷ []) refl .0 in
-          absurd (omega (arith, ten, rw the-answer at zero))
+          absurd (omega (arith, ten, rw (told-flag image fine) at zero))
       go (inr room) =
-          let fits : flag < 2 ^ 64 = omega (arith, bit-le (stopped (stateIn image))) in
-          let read = done-read (flag ∷ []) (lit≤ tt) result room (one fits none) in
-          let told : flag ≡ 1 = sym (ap (λ (a : Answer). value a 0) read) ∙ (rw the-answer at reads) in
-          the-answer ∙ ap (λ (m : ℕ). answer Fine (m ∷ [])) told
+          told-flag image fine
+          ∙ ap (λ (m : ℕ). answer Fine (m ∷ [])) (sym (word-read result room .1) ∙ reads)
+
+module _ (n home : ℕ) (two : least ≤ n) (few : n ≤ most) (below : home < n) (buffer : List ℕ) (small : Bytes buffer)
+    (room : imageLength n ≤ length buffer) (calls : List HostCall) (bytes : GivenBytes (map (λ c. c .call) calls)) where
+  -- the image after the list
+  abbrev last : List ℕ
+  last = hostImageAll (freshImage n home buffer) calls
+
+  pub host-reached : Reached n last (hostShownAll (freshImage n home buffer) calls)
+  host-reached =
+      let first = freshImage n home buffer in
+      subst (Reached n last) (nothing-plus (hostShownAll first calls))
+      (host-calls-kept n calls first nothing bytes (fresh-reached n home two few below buffer small room))
 
 pub suite-demand : SuiteDemand
 suite-demand n home two few below buffer small room calls bytes =
-    let first = freshImage n home buffer in
-    let last = hostImageAll first calls in
-    let shown = hostShownAll first calls in
-    let reached = subst (Reached n last) (nothing-plus shown)
-    (host-calls-kept n calls first nothing bytes (fresh-reached n home two few below buffer small room)) in
-    promised TellsStopped n last shown reached (tells-stopped last (reached .fine))
+    let reached = host-reached n home two few below buffer small room calls bytes in
+    promised TellsStopped n _ _ reached (tells-stopped _ (reached .fine))

@@ -62,9 +62,12 @@ TellsStopped image =
 -- for every ring of 2 to 64, every home, every buffer with room for the image, and every list of the host's calls,
 -- refused ones and short result slices included, or none, from what the fresh ring call writes; of ledgers and result
 -- slices nothing need be known
-abbrev pub SuiteDemand : Type 0
-SuiteDemand =
+abbrev pub AfterEveryHostList : (ℕ → List ℕ → Totals → Type 0) → Type 0
+AfterEveryHostList P =
     (n home : ℕ) → least ≤ n → n ≤ most → home < n → (buffer : List ℕ) → Bytes buffer → imageLength n ≤ length buffer
     → (calls : List HostCall) → GivenBytes (map (λ c. c .call) calls)
-    → Promised TellsStopped n (hostImageAll (freshImage n home buffer) calls)
-    (hostShownAll (freshImage n home buffer) calls)
+    → P n (hostImageAll (freshImage n home buffer) calls) (hostShownAll (freshImage n home buffer) calls)
+
+-- the demand
+abbrev pub SuiteDemand : Type 0
+SuiteDemand = AfterEveryHostList (Promised TellsStopped)

@@ -117,7 +117,7 @@ entry-4 n home process two few below on-ring buffer room =
     let stays : apply st v ≡ st = idle-keeps st v (ap isIdle nothing) in (
       step-answers image fine process 7 on-image (lit< tt) ∙ rw (state, nothing),
       step-leaves image fine process 7 on-image (lit< tt)
-      ∙ rw (state, stays, written) (image-over buffer st st refl),
+          ∙ rw (state, stays, written) (image-over buffer st st refl),
     )
 
 -- a second 1.0 after the first is idle, and the note (bytes 28 to 31) is still 7
