@@ -1,5 +1,12 @@
 -- The third demand over lists of calls: the fresh ring has the invariant with nothing shown, every call keeps it with
--- what it shows besides, and what is promised is read off it and off the image's bytes.
+-- what it shows besides (Calls), and what is promised is read off it and off the image's bytes (Flags).
+--
+-- A refused call changes and shows nothing, and so does stopped; a step that is done is one event; a run that is done
+-- is the list of its tape's events, each at a process of the ring and with a message of 32 bits (tape/proofs/Events).
+-- So the image after it is accepted and stands for the rules' own state (machine/proofs/Runs), and the invariant is
+-- kept from event to event. What is shown is what the rules count (Shown): a run's counts add to those before, since an
+-- event adds to each count by itself (machine/proofs/Tallies), and its messages are read from the ledger's bytes
+-- (Ledger).
 use Prim.Native.Nat.{ℕ, suc, _≤_, _<_}
 use mathlib.Core.Path.{_≡_, sym, ap, subst, _∙_}
 use mathlib.Core.Bool.{true, false}

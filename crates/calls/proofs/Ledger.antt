@@ -1,6 +1,6 @@
--- The messages that are read from a ledger buffer after a run are those of the rules, in order: each record stands 12
--- bytes after the one before it, byte 5 of it is the outcome's number, and its last four bytes hold the message, which
--- is in range.
+-- The messages that are read from a ledger buffer after a run are those of the rules, in order, by induction on the
+-- events and once for both codes: each record stands 12 bytes after the one before it, byte 5 of it is the outcome's
+-- number, and its last four bytes hold the message, which is in range.
 use Prim.Native.Nat.{ℕ, suc, _+_, _*_, _^_, _≤_, _<_}
 use mathlib.Core.Path.{_≡_, refl, sym, ap, ap₂, _∙_}
 use mathlib.Core.Bool.{Bool, true, false, cond}

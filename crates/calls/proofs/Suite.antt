@@ -1,7 +1,8 @@
--- The third demand over the calls of the suite's host. With a result slice of at least 80 bytes a call leaves the
--- image as the call itself does, and what is read back shows the same: the values fit their words, since messages have
--- 32 bits and a run has at most 4,128,768 events. With a shorter slice a call leaves the image, and the number that it
--- returns isn't 0, so that it shows nothing. So every call keeps what Calls.Reached says.
+-- The third demand over the calls of the suite's host: every call keeps what Calls.Reached says, which is what
+-- Demand.promised reads. With a result slice of at least 80 bytes a call leaves the image as the call itself does, and
+-- what is read back shows the same: the values fit their words, since messages have 32 bits and a run has at most
+-- 4,128,768 events. With a shorter slice a call leaves the image, and the number that it returns isn't 0, so that it
+-- shows nothing.
 use Prim.Native.Nat.{ℕ, suc, _-_, _^_, _≤_, _<_}
 use mathlib.Core.Path.{_≡_, refl, sym, ap, ap₂, subst, _∙_}
 use mathlib.Core.List.{List, [], _∷_, _++_, map}

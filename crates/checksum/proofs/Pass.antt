@@ -1,5 +1,6 @@
 -- One pass over a block's slots: what its sums are at the start and after each slot, and that the check comes out after
--- the last.
+-- the last. Each of a slot's four words is summed over the slots, and these sums once more after every slot; four times
+-- that counts a word too often by its place in its slot. The loop keeps this of the slots passed (Summed).
 use Prim.Native.Nat.{ℕ, _+_, _-_, _*_, _%_, _≤_, _<_}
 use mathlib.Core.Path.{_≡_, sym, ap, ap₂, _∙_}
 use mathlib.Core.List.{List}

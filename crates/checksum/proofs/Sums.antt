@@ -1,5 +1,6 @@
 -- One remainder at the end is the remainder after each word: a remainder may be left out wherever another follows, so
--- the check is two plain sums over the words, each with one remainder.
+-- the check is two plain sums over the words, each with one remainder, by induction on the words from any two sums. The
+-- one is the sum of the words; the other counts a word once for itself and once for every word after it.
 use Prim.Native.Nat.{ℕ, suc, _+_, _-_, _*_, _%_, _^_, _<_}
 use mathlib.Core.Path.{_≡_, refl, ap₂, _∙_}
 use mathlib.Core.List.{List, [], _∷_, _++_}

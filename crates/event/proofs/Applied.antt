@@ -1,5 +1,8 @@
--- A possible event once its row is done (Next): what put and main's work may then know, and that what they make of it
--- is the rule's reaction.
+-- A possible event once its row is done: what put and main's work may then know, and that what they make of it shows
+-- the rule's reaction, for each of the eight codes. A reaction in words shows the rule's one that it stands for
+-- (reaction/specs/Reaction, `shown`). The row of a code makes of the own record what the rule does first (Next); codes
+-- 0, 1 and 3 to 6 end there. Main's work then changes status, message and note (Works), and a put goes on by its stage
+-- (reaction/proofs/Stages). Whether the event is possible was asked before (Possible).
 use Prim.Native.Nat.{ℕ, _+_, _-_, _*_, _%_, _^_, _<_}
 use mathlib.Core.Path.{_≡_, refl, sym, ap, _∙_}
 use native.Mathlib.Omega.{arith}

@@ -1,5 +1,6 @@
--- An event is possible where its bit is set: codes 0 to 3 have theirs by the stage, which the checker goes through, in
--- byte 3, where a record has zeros; codes 4 to 7 have a flag or a request of the record.
+-- An event is possible, that is not idle, where its bit is set, whatever its message and the envelope. Codes 0 to 3
+-- have theirs by the stage, which the checker goes through, in byte 3, where a record has zeros; codes 4 to 7 have a
+-- flag or a request of the record, and a put with news is never idle. So one test masks one bit out of all of these.
 use Prim.Native.Nat.{ℕ, _+_, _*_, _/_, _%_, _^_, _≤_, _<_}
 use mathlib.Core.Path.{_≡_, refl, ap, _∙_}
 use mathlib.Core.Bool.{Bool, true, false, not, cond, _||_, Bool·beq}

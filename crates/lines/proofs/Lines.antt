@@ -1,4 +1,6 @@
--- Fields one after the other are a line.
+-- Fields one after the other are a line, since pieces of text one after the other are one piece (text/proofs/Laws): so
+-- a function that writes fields in a row has written their line, and a loop over the records has written their lines. A
+-- number of 32 bits has at most ten digits (machine/proofs/Text), so a record's line has at most 31 bytes.
 use Prim.Native.Nat.{ℕ, _+_, _*_, _^_, _≤_, _<_}
 use mathlib.Core.Path.{_≡_}
 use mathlib.Core.List.{List, [], _∷_, _++_, append-assoc}

@@ -1,7 +1,9 @@
 -- Entry 10. A put may end alone, in rings of two and of three: the checker computes a list of events for each, and one
--- more by which a get takes the message and the ring is stopped after all. And in every ring: where the put of a full
--- envelope has ended, one more put has ended than messages were taken. When the ring is stopped as many gets as puts
--- have ended, and no get ends before its take: so a message has been taken since, the envelope's own before any other.
+-- more by which a get takes the message and the ring is stopped after all. And in every ring, by the invariant and not
+-- event by event: where the envelope is full and nobody is in stages 4 and 5, clause E says that one more put has ended
+-- than messages were taken. Puts ended never fall. When the ring is stopped as many gets as puts have ended, and no
+-- more gets end than messages are taken: so a message has been taken since, and since they are taken in the order in
+-- which they were filled, the envelope's own before any other.
 use Prim.Native.Nat.{ℕ, _+_, _≤_}
 use mathlib.Core.Path.{_≡_, refl, sym, ap, _∙_}
 use mathlib.Core.Bool.{true, false}

@@ -1,4 +1,4 @@
--- Soundness is kept by every event.
+-- Soundness is kept by every event: Kept has the theorem, and says how it goes.
 pub mod Sound
 pub mod Facts
 pub mod Sums

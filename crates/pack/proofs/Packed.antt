@@ -1,5 +1,6 @@
 -- A block written in four stores, number and count, events, zeros, and the check of all these, is the rule's block: the
--- stores lie apart, and the check is taken of what the rule covers.
+-- stores lie apart, and the check is taken of what the rule covers. A store is a splice; splices one after the other
+-- are one, and those apart from each other may be made in either order (machine/proofs/Laws/Splices).
 use Prim.Native.Nat.{ℕ, _+_, _-_, _*_, _/_, _%_, _≤_, _<_}
 use mathlib.Core.Path.{_≡_, sym, ap, ap₂, _∙_}
 use mathlib.Core.Logic.{_⊎_, inl, inr}

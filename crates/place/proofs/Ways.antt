@@ -1,6 +1,7 @@
--- Each way through an event on an image: one that isn't possible is idle and leaves the image as it is; any other is
--- the rule's reaction at its process, placed. What lower functions answered is a variable here, with the value that it
--- is known to be.
+-- Each way through an event on an image: one that isn't possible is idle and leaves the image as it is, since an idle
+-- event keeps the state (Idle) and a sound image is what its state writes (Image.Rewrite); any other is the rule's
+-- reaction at its process, placed. What lower functions answered is a variable here, with the value that it is known to
+-- be.
 use Prim.Native.Nat.{ℕ, _%_, _≤_, _<_}
 use mathlib.Core.Path.{_≡_, refl, sym, ap, _∙_}
 use mathlib.Core.Bool.{Bool, true, false, not}

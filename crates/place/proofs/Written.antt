@@ -1,5 +1,7 @@
 -- A reaction written into a sound image: own record, header, then the neighbour that it reaches, one after the other,
--- are the rule's one. A neighbour is another process, so what is read of it is what stood there.
+-- are the rule's `place`. Each write into the image of a state is the image of the state with one element replaced
+-- (machine/proofs/Image). In a ring of two or more a neighbour is another process, so what is read of it is what stood
+-- there. Where nothing is asked or the envelope stays, the rule's change is no change (Idle.unchanged).
 use Prim.Native.Nat.{ℕ, _+_, _*_, _%_, _≤_, _<_}
 use mathlib.Core.Path.{_≡_, sym, ap, subst, _∙_}
 use mathlib.Core.Bool.{true, false}

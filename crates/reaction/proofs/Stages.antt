@@ -1,5 +1,7 @@
--- The put's decision by stage: each arm of it is that arm of the rule, and the stages that no arm names do no more. The
--- answers of the parts are variables here.
+-- The put's decision by stage: each arm of it is that arm of the rule, and the stages that no arm names do no more. Of
+-- each part, ask and pass (Passed), mark and clear (Marks) and forward (Forward), it is proved that what its result
+-- shows is what the rule's part makes of what was shown (`Makes`), so the parts compose as the rule's do. The answers
+-- of the parts are variables here.
 use Prim.Native.Nat.{ℕ, zero, suc, _+_, _*_, _/_, _%_, _≤_, _<_}
 use mathlib.Core.Path.{_≡_, refl, sym, ap, _∙_}
 use mathlib.Core.Bool.{Bool, true, false, Bool·beq}

@@ -1,5 +1,8 @@
 -- Words and images: the word that stands in an image shows the process, and the header's words the envelope, that the
--- rule reads there; and a word in order, written, is the process that it shows, written.
+-- rule reads there; and a word in order, written, is the process that it shows, written. So code works on words, and
+-- the rules stay as they are. In order (Tidy) means that no bit is set that no rule names, as in every accepted image.
+-- Bits set, off or added act on each field of a word by itself, stage, flags, requests and marks, note (Fields,
+-- Changes, and Headers of the header); what that does to a field the checker computes at every value of it (Pairs).
 use Prim.Native.Nat.{ℕ, _+_, _/_, _%_, _^_, _≤_, _<_}
 use mathlib.Core.Path.{_≡_, refl, sym, ap, subst, _∙_}
 use mathlib.Core.Bool.{true}

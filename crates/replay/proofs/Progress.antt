@@ -1,5 +1,8 @@
 -- The run after k events: the image, the counts and the ledger are what the first k events of the tape come to. A
--- block's events come next, and after the last block they are all.
+-- block's events come next, by turns, and join those before (turns/proofs/Joined); after the last block they are all.
+-- Between two blocks k is a multiple of 63, or nothing is left; event k stands at 8 * (k + k / 63 + 1), which the loops
+-- reach by adding 8. Measuring is the same run on a copy of the image (Spare), whose count of records is this run's,
+-- whatever ledger is lent to it; room for a record an event is enough without it (Room).
 use Prim.Native.Nat.{ℕ, zero, suc, _+_, _-_, _*_, _/_, _%_, _≤_, _<_}
 use mathlib.Core.Path.{_≡_, refl, sym, ap, _∙_}
 use mathlib.Core.List.{List, _++_, append-assoc, append-nil}

@@ -1,6 +1,7 @@
 -- A tape of at most 64 blocks, performed from an accepted image: what is refused is the tape alone, since the ledger
 -- has room for a record an event; and what is written is the rules' text, since the ledger has the rules' records at
--- its start and the image after the run stands for the rules' own state.
+-- its start and the image after the run stands for the rules' own state. That image is accepted (machine/proofs/Runs),
+-- so the stopped call isn't refused, and says of it what the rule says.
 use Prim.Native.Nat.{ℕ, _+_, _*_, _≤_, _<_}
 use mathlib.Core.Path.{_≡_, refl, sym, ap, ap₂, _∙_}
 use mathlib.Core.Bool.{Bool}

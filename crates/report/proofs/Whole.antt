@@ -1,5 +1,6 @@
--- The whole input: N and home are tested by the fresh ring call, whose buffer has room for every ring; then the number
--- of blocks; then the run does what is left, from the fresh ring.
+-- The whole input: N and home are tested by the fresh ring call, whose buffer has room for every ring, so that it can
+-- refuse nothing else; then the number of blocks; then the run does what is left, from the fresh ring (Ran). So what is
+-- refused is the rule's first, and else the text is the rules' own.
 use Prim.Native.Nat.{ℕ, _-_, _≤_, _<_, min}
 use mathlib.Core.Path.{_≡_, refl, sym, ap, ap₂, _∙_}
 use mathlib.Core.Bool.{Bool, true, false}

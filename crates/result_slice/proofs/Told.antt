@@ -1,6 +1,9 @@
 -- What a call of the suite's host returns and leaves, by the length of its result slice, whatever the call's own answer
--- is. With a slice of at least 80 bytes it is the answer's number and its values; with a shorter one the call's tests
--- alone decide, and every slice stays.
+-- is: it depends on the call only through its answer, so it is said once for all. With a slice of at least 80 bytes it
+-- is the answer's number and its values as ten words; with a shorter one it is the first refusal among the call's
+-- tests, else 10, and every slice stays. A ledger's or an output's test comes last and can only be refused with 10, so
+-- it decides nothing there (numbers/proofs/Verdicts). Each way through a call is then a law over what lower functions
+-- answered (ring_host/proofs/Ways, ring_tools/proofs/Ways).
 use Prim.Native.Nat.{ℕ, _≤_, _<_}
 use mathlib.Core.Path.{_≡_, _∙_}
 use mathlib.Core.Bool.{true, false, and-false}

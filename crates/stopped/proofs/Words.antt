@@ -1,4 +1,7 @@
--- The walk of the stopped call, by the records' words: nothing waits exactly when events 2 to 7 are idle.
+-- The walk of the stopped call, by the records' words: nothing waits exactly when events 2 to 7 are idle. News, an
+-- arriving envelope and requests on a link are bits of a record, so one mask over all words, or-ed, tests them. Main or
+-- get ends a stage just where 13 times it has bit 2 or bit 5, computed at all eleven; what is or-ed has a bit only if a
+-- part has it. The image was found sound before, so no stage is above 10.
 use Prim.Native.Nat.{ℕ, zero, suc, _+_, _*_, _/_, _%_, _≤_, _<_, min, max}
 use mathlib.Core.Path.{_≡_, refl, _∙_}
 use mathlib.Core.Bool.{Bool, true, false, not, _&&_, Bool·beq, and-true}

@@ -1,6 +1,8 @@
 -- Damaged tapes: one byte of an accepted tape changed, or one word, and the check of that block refuses it. The blocks
--- before it are as they were, and the check of its bytes, or the check that it is compared with, has moved; only 0 and
--- 65,535 exchanged is not seen.
+-- before it are as they were, so 7 at this block is the first refusal. A covered byte changed is a word changed by less
+-- than 65,535, so the words' sum moves, and the check with it, and the check that it is compared with stands where it
+-- was; a byte of that check changed moves it. A word changed keeps the sum only where it moved by 65,535, which is 0
+-- and 65,535 exchanged; then the other sum is kept too, and the change is not seen.
 use Prim.Native.Nat.{ℕ, zero, suc, _+_, _-_, _*_, _/_, _%_, _≤_, _<_}
 use mathlib.Core.Path.{_≡_, refl, sym, ap, _∙_, subst}
 use mathlib.Core.List.{List, [], _∷_}

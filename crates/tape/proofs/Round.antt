@@ -1,5 +1,8 @@
 -- The round trips: an accepted list makes an accepted tape that gives it back, and an accepted tape holds an accepted
--- list that makes it again. Both go block by block, and the blocks are joined.
+-- list that makes it again. Both go block by block, and the blocks are joined. Block b of a list's tape is the one that
+-- its events make, since the blocks before it have 512 bytes each; its count and its used slots give the events back,
+-- and 63 events a block join to the list. The other way round, an accepted block is made of its number, count and check
+-- as they were read, each byte below 256, its used slots and zeros: so it is the block that its events make.
 use Prim.Native.Nat.{ℕ, zero, _+_, _-_, _*_, _/_, _%_, _≤_, _<_}
 use mathlib.Core.Path.{_≡_, sym, ap, ap₂, _∙_}
 use mathlib.Core.Bool.{true}

@@ -1,5 +1,5 @@
 -- Events tested all together: what is or-ed covers each of its parts, so a small whole has small parts, and each event
--- fits.
+-- fits. Where the whole is not small nothing is known, and every event is tested by itself.
 use Prim.Native.Nat.{ℕ, _+_, _-_, _*_, _%_, _≤_, _<_}
 use mathlib.Core.Path.{_≡_, refl, sym, _∙_}
 use mathlib.Core.Bool.{Bool, true, false, _&&_, _||_}

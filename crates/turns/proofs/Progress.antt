@@ -1,5 +1,11 @@
 -- The events half done: the image, the ledger, the counts, the last outcome and the place of the next record are what
 -- the events so far come to; one event more is another one performed, and in the end they are all.
+--
+-- A step is such a list of one event, and a run one list a block. A turn is idle, moves something without a record, or
+-- has one, told apart by its outcome's number (Ways); it adds to the word what the rule adds to the counts, and no byte
+-- of it carries, since a block has at most 63 events (Packed). No turn tests the image again: it is accepted after
+-- every event (machine/proofs/Runs). A record without room is left out, so nothing need be known of the ledger before.
+-- What events leave, and what others leave that come behind them, is what all of them leave (Joined).
 use Prim.Native.Nat.{ℕ, _+_, _-_, _*_, _^_, _≤_, _<_}
 use mathlib.Core.Path.{_≡_, refl, sym, ap, _∙_}
 use mathlib.Core.Bool.{true}

@@ -1,6 +1,13 @@
 -- Soundness is kept by every event: a state that fits fits after any event at one of its processes, with any code and
--- any message, and so an accepted image is accepted after the event, with the same size and length. At its own process
--- the event is settled (Reactions), and placed on the ring it changes nothing else that a rule reads (Placed).
+-- any message, and so an accepted image is accepted after the event, with the same size and length.
+--
+-- At its own process the event is settled (Settled; Owed, Puts and Reactions show it): a process that fits fits again,
+-- its flags balance (have and arriving after, and whether the envelope leaves, add up to those before), the status
+-- changes only where the envelope is, and each count changes by just the process's own mark. Placed on the ring
+-- (Placed) it changes what is added up over the records by the own record alone, and the flag that went off with the
+-- envelope comes back at the right. Others that need the envelope would have it, and there is one place only, so a
+-- change of status touches nobody else. A status's count is the sum of its marks, since a set of at most 64 has as many
+-- ones as members (Sums).
 use Prim.Native.Nat.{ℕ, _+_, _^_, _≤_, _<_}
 use mathlib.Core.Path.{_≡_, refl, sym, ap, ap₂, _∙_}
 use mathlib.Core.Bool.{Bool, true}

@@ -1,5 +1,6 @@
 //! The planted faults: the same comparison with a plain implementation that is wrong in one thing must report it, and
-//! shrink what it reports to a case that can be read.
+//! shrink what it reports to a case that can be read: at most 3 processes, or 37 where the fault needs 37, and at most
+//! 3 events, equal ones in a row taken for one.
 
 use crate::case::{Call, Case};
 use crate::pieces::work;

@@ -1,5 +1,6 @@
 //! Step, run and stopped: the proved library against the plain implementation, the same calls on both, and everything
-//! that they show compared.
+//! that they show compared. A difference is shrunk and shown as bytes and as events. The test fails too if too little
+//! was exercised: calls, events, outcomes, ways through a put, crossings, each cause of a refusal.
 //!
 //! The work is the same each time. `RING_ROUNDS=20 cargo test --release --offline -p compare --test differential` does
 //! it twenty times over with other numbers, from the seed that `RING_SEED` gives (1 if it gives none) upward.
