@@ -1,14 +1,15 @@
 -- The run after k events: the image, the counts and the ledger are what the first k events of the tape come to. A
--- block's events come next, by turns, and join those before (turns/proofs/Joined); after the last block they are all.
--- Between two blocks k is a multiple of 63, or nothing is left; event k stands at 8 * (k + k / 63 + 1), which the loops
--- reach by adding 8. Measuring is the same run on a copy of the image (Spare), whose count of records is this run's,
--- whatever ledger is lent to it; room for a record an event is enough without it (Room).
+-- block's events come next, by turns, and join those before (turns/proofs/Joined); after the last block they are all
+-- that were asked for. Between two blocks k is a multiple of 63, or nothing is left; event k stands at
+-- 8 * (k + k / 63 + 1), which the loops reach by adding 8. Measuring is the same run on a copy of the image (Spare),
+-- whose count of records is this run's, whatever ledger is lent to it; room for a record an event is enough without it
+-- (Room).
 use Prim.Native.Nat.{ℕ, zero, suc, _+_, _-_, _*_, _/_, _%_, _≤_, _<_}
 use mathlib.Core.Path.{_≡_, refl, sym, ap, _∙_}
 use mathlib.Core.List.{List, _++_, append-assoc, append-nil}
 use native.Mathlib.Omega.{arith}
-use lib.ListN.{length, take}
-use lib.Seq.{getD-take, take-all, length-take-le}
+use lib.ListN.{length}
+use lib.Seq.{getD-take}
 use Rattle.machine.specs.declared.Counts.{Counts}
 use Rattle.machine.specs.Bytes.{Bytes}
 use Rattle.machine.specs.Lists.{tabulate}
@@ -17,7 +18,7 @@ use Rattle.machine.specs.Events.{Event}
 use Rattle.machine.specs.Tape.{eventIn, slotAt}
 use Rattle.machine.specs.Run.{noCounts, countsFrom, after}
 use Rattle.machine.specs.Refusals.{codes}
-use Rattle.machine.specs.Answers.{runEvents, runRecords}
+use Rattle.machine.specs.Answers.{runEvents}
 use Rattle.machine.proofs.Laws.Lists.{tabulate-more}
 use Rattle.tape_test.specs.Accepted.{eventsOn}
 use Rattle.tape_test.proofs.Blocks.{tape-fine}
@@ -28,11 +29,8 @@ use Rattle.ledger.proofs.Bounds.{none-above-le, none-above-start, counts-few}
 use Rattle.turns.specs.declared.Tally.{Tally}
 use Rattle.turns.specs.Turns.{added, eventsFrom, Turning, Tallied, Ran}
 use Rattle.turns.proofs.Joined.{counts-joined, nobody, Stands, ran-stands, ran-none, ran-joined}
-use Rattle.replay.specs.Playable.{Playable, Recorded}
-
--- the first k events
-abbrev pub done : List ℕ → ℕ → List Event
-done tape k = take k (runEvents tape)
+use Rattle.replay.specs.Playable.{Playable, Recorded, firstEvents, firstRecords}
+use Rattle.replay.proofs.First.{first-long}
 
 -- after k events of a run on s₀ and l₀, and `at` bytes of the tape: the image s, the ledger l, the counts c
 pub record Progress (s₀ tape : List ℕ) (total : ℕ) (l₀ s l : List ℕ) (c : Counts) (at k : ℕ) : Type 0 where
@@ -44,11 +42,11 @@ pub record Progress (s₀ tape : List ℕ) (total : ℕ) (l₀ s l : List ℕ) (
   pub there : at ≡ 8 * (k + (k + 62) / 63)
   pub few : total ≤ 4128768
   pub above : NoneAbove k c
-  pub ran : Ran 0 0 s₀ l₀ (done tape k) s l
-  pub counts : c ≡ countsFrom noCounts (stateIn s₀) (done tape k)
+  pub ran : Ran 0 0 s₀ l₀ (firstEvents tape k) s l
+  pub counts : c ≡ countsFrom noCounts (stateIn s₀) (firstEvents tape k)
   pub long : length l ≡ length l₀
 
--- a block's events start at event k: where they end, of so many on the tape
+-- a block's events start at event k: where they end, of so many that were asked for
 pub record Ends (k total end : ℕ) : Type 0 where
   pub some : k < end
   pub few : end ≤ k + 63
@@ -66,7 +64,7 @@ module _ {s₀ tape : List ℕ} {total : ℕ} (ready : Playable s₀ tape total)
         within = omega arith;
         first = λ _. omega arith;
         there = omega arith;
-        few = omega (arith, ready .counted, events.events-few codes (sizeIn s₀) tape (ready .tape-fine));
+        few = omega (arith, ready .so-many, events.events-few codes (sizeIn s₀) tape (ready .tape-fine));
         above = none-above-start;
         ran = ran-none (ready .image-fine) small;
         counts = refl;
@@ -75,41 +73,39 @@ module _ {s₀ tape : List ℕ} {total : ℕ} (ready : Playable s₀ tape total)
 
   -- ---- the first events
 
-  done-long : {k : ℕ} → k ≤ total → length (done tape k) ≡ k
-  done-long {k} h = length-take-le k (runEvents tape) (omega (arith, events.length-events tape, ready .counted))
-
   -- no count is above their number
-  few-counts : {k : ℕ} → k ≤ total → NoneAbove k (countsFrom noCounts (stateIn s₀) (done tape k))
+  few-counts : {k : ℕ} → k ≤ total → NoneAbove k (countsFrom noCounts (stateIn s₀) (firstEvents tape k))
   few-counts {k} h =
-      none-above-le (omega (arith, done-long h)) (counts-few (done tape k) (stateIn s₀) 0 none-above-start)
+      none-above-le (omega (arith, first-long ready h))
+      (counts-few (firstEvents tape k) (stateIn s₀) 0 none-above-start)
 
   -- n events of block b come next
   block-more : (b n : ℕ) → n ≤ 63 → 63 * b + n ≤ total
-      → done tape (63 * b + n) ≡ done tape (63 * b) ++ eventsFrom tape (slotAt b 0) n
+      → firstEvents tape (63 * b + n) ≡ firstEvents tape (63 * b) ++ eventsFrom tape (slotAt b 0) n
   unfolding tabulate
   block-more b zero slots inside =
-      ap (done tape) (let same : 63 * b + 0 ≡ 63 * b = omega arith in same) ∙ sym (append-nil _)
+      ap (firstEvents tape) (let same : 63 * b + 0 ≡ 63 * b = omega arith in same) ∙ sym (append-nil _)
   block-more b (suc n) slots inside =
       let k = 63 * b + n in
       let there : 63 * b + suc n ≡ k + 1 = omega arith in
       let block : k / 63 ≡ b = omega arith in
       let slot : k % 63 ≡ n = omega arith in
       let here : slotAt b n ≡ slotAt b 0 + 8 * (0 + n) = omega arith in
-      let next = events.events-to codes (sizeIn s₀) tape (ready .tape-fine) k (omega (arith, ready .counted)) in
+      let next = events.events-to codes (sizeIn s₀) tape (ready .tape-fine) k (omega (arith, ready .so-many)) in
       let before = block-more b n (omega arith) (omega arith) in
       rw (there, next, block, slot, here, before, tabulate-more (λ j. eventIn tape (slotAt b 0 + 8 * j)) 0 n)
-      (append-assoc (done tape (63 * b)) (eventsFrom tape (slotAt b 0) n) _)
+      (append-assoc (firstEvents tape (63 * b)) (eventsFrom tape (slotAt b 0) n) _)
 
 module _ {s₀ tape : List ℕ} {total : ℕ} {l₀ s l : List ℕ} {c : Counts} {at k : ℕ}
     (g : Progress s₀ tape total l₀ s l c at k) where
   -- ---- what stays true of the image
 
-  pub stands : Stands s₀ (done tape k) s
+  pub stands : Stands s₀ (firstEvents tape k) s
   stands =
       ran-stands (g .ready .image-fine) (g .start-small) (g .ran)
       (λ i h.
-      let below : i < k = omega (arith, done-long (g .ready) (g .within)) in
-      let inside : i < eventsOn tape = omega (arith, g .within, g .ready .counted) in
+      let below : i < k = omega (arith, first-long (g .ready) (g .within)) in
+      let inside : i < eventsOn tape = omega (arith, g .within, g .ready .so-many) in
       let here = events.event-at codes (sizeIn s₀) tape (g .ready .tape-fine) i inside nobody in
       rw (getD-take k (runEvents tape) i nobody below, here)
       (events.event-fits codes (sizeIn s₀) tape (g .ready .tape-fine) (g .tape-small) i inside))
@@ -134,11 +130,11 @@ module _ {s₀ tape : List ℕ} {total : ℕ} {l₀ s l : List ℕ} {c : Counts}
           few = ends .few;
           numbers = omega (arith, g .few);
           within =
-              let last = event-placed tape fine-tape (end - 1) (omega (arith, g .ready .counted)) in
+              let last = event-placed tape fine-tape (end - 1) (omega (arith, g .ready .so-many)) in
               omega (arith, last .block, fine-tape .whole);
           fits =
               λ j h.
-              let placed = event-placed tape fine-tape (k + j) (omega (arith, g .ready .counted)) in
+              let placed = event-placed tape fine-tape (k + j) (omega (arith, g .ready .so-many)) in
               let block : (k + j) / 63 ≡ k / 63 = omega arith in
               let slot : (k + j) % 63 ≡ j = omega arith in
               let here : at + 8 + 8 * j ≡ slotAt (k / 63) j = omega (arith, there) in
@@ -152,8 +148,8 @@ module _ {s₀ tape : List ℕ} {total : ℕ} {l₀ s l : List ℕ} {c : Counts}
     abbrev block : List Event
     block = eventsFrom tape (at + 8) (end - k)
 
-    done-more : done tape end ≡ done tape k ++ block
-    done-more =
+    first-more : firstEvents tape end ≡ firstEvents tape k ++ block
+    first-more =
         let b = k / 63 in
         let from : 63 * b ≡ k = omega (arith, start) in
         let to : k + (end - k) ≡ end = omega arith in
@@ -163,12 +159,13 @@ module _ {s₀ tape : List ℕ} {total : ℕ} {l₀ s l : List ℕ} {c : Counts}
         → Ran k (12 * c .records) s l block s' l' → length l' ≡ length l → c' ≡ added c (t .counts)
         → Progress s₀ tape total l₀ s' l' c' (at + 8 + 8 * (end - k)) end
     going-on {c'} tallied ran long more =
-        let behind : 12 * c .records ≡ 0 + 12 * countsFrom noCounts (stateIn s₀) (done tape k) .records =
+        let behind : 12 * c .records ≡ 0 + 12 * countsFrom noCounts (stateIn s₀) (firstEvents tape k) .records =
         rw (g .counts) (omega arith) in
-        let counted : c' ≡ countsFrom noCounts (stateIn s₀) (done tape end) =
+        let counted : c' ≡ countsFrom noCounts (stateIn s₀) (firstEvents tape end) =
         more
         ∙ tallied .counts c
-        ∙ rw (stands .state, g .counts, done-more) (sym (counts-joined (done tape k) block (stateIn s₀) noCounts)) in
+        ∙ rw (stands .state, g .counts, first-more)
+        (sym (counts-joined (firstEvents tape k) block (stateIn s₀) noCounts)) in
         record {
           ready = g .ready;
           start-small = g .start-small;
@@ -179,9 +176,9 @@ module _ {s₀ tape : List ℕ} {total : ℕ} {l₀ s l : List ℕ} {c : Counts}
           few = g .few;
           above = rw counted (few-counts (g .ready) (ends .inside));
           ran =
-              rw done-more
-              (ran-joined (done tape k) block (stands .state) (g .long)
-              (omega (arith, done-long (g .ready) (g .within))) behind (g .ran) ran);
+              rw first-more
+              (ran-joined (firstEvents tape k) block (stands .state) (g .long)
+              (omega (arith, first-long (g .ready) (g .within))) behind (g .ran) ran);
           counts = counted;
           long = long ∙ g .long;
         }
@@ -189,10 +186,9 @@ module _ {s₀ tape : List ℕ} {total : ℕ} {l₀ s l : List ℕ} {c : Counts}
   -- ---- no event left
 
   pub played : total ≤ k
-      → (c ≡ countsFrom noCounts (stateIn s₀) (runEvents tape))
-      × ((s ≡ imageWith s₀ (after (stateIn s₀) (runEvents tape))) × Recorded (runRecords s₀ tape) l₀ l)
-  unfolding runRecords
+      → (c ≡ countsFrom noCounts (stateIn s₀) (firstEvents tape total))
+      × ((s ≡ imageWith s₀ (after (stateIn s₀) (firstEvents tape total)))
+      × Recorded (firstRecords s₀ tape total) l₀ l)
   played end =
-      let all : done tape k ≡ runEvents tape =
-      take-all k (runEvents tape) (omega (arith, events.length-events tape, g .ready .counted)) in
+      let all : k ≡ total = omega (arith, g .within) in
       (rw all at (g .counts), (rw all at (g .ran .image), λ enough. (rw all at (g .ran .records)) (omega arith)))

@@ -65,4 +65,4 @@ module _ (s : List ℕ) (fine : imageVerdict s ≡ Fine) (small : Bytes s) where
 
     pub spare-playable : {tape : List ℕ} {total : ℕ} → Playable s tape total → Playable spare tape total
     spare-playable ready =
-        record { image-fine = spare-fine; tape-fine = rw spare-size (ready .tape-fine); counted = ready .counted }
+        record { image-fine = spare-fine; tape-fine = rw spare-size (ready .tape-fine); so-many = ready .so-many }

@@ -1,6 +1,7 @@
-// The events of an accepted tape, performed on an accepted image, with their records in the ledger: a tape's replay.
-// And whether a ledger has room for the records: known at once where it has room for a record an event, else counted on
-// a spare copy of the image, so that nothing lent has changed when a run is refused. Document 01, "The run".
+// The first events of an accepted tape, performed on an accepted image, with their records in the ledger: a tape's
+// replay, whole where all of them are asked for. And whether a ledger has room for the records: known at once where it
+// has room for a record an event, else counted on a spare copy of the image, so that nothing lent has changed when a
+// run is refused. Document 01, "The run".
 use little_endian::wide;
 use machine::Counts;
 use span::copy;
@@ -10,19 +11,19 @@ ghost use lib.Dec.{leb};
 ghost use lib.ListN.{length};
 ghost use Rattle.machine.specs.Image.{stateIn, imageWith};
 ghost use Rattle.machine.specs.Run.{noCounts, countsFrom, after};
-ghost use Rattle.machine.specs.Answers.{runEvents, runRecords};
-ghost use Rattle.replay.specs.Playable.{Playable, Recorded};
+ghost use Rattle.replay.specs.Playable.{Playable, Recorded, firstEvents, firstRecords};
 
-// Internal: every event of the tape, one after the other. The ledger gets their records where it has room for all. Each
-// turn of the loop is a block: its events, 63 or what is left, stand 8 bytes apart, and 8 bytes stand before them.
+// Internal: the first `events` events of the tape, one after the other; a run asks for all. The ledger gets their
+// records where it has room for all. Each turn of the loop is a block: its events, 63 or what is left, stand 8 bytes
+// apart, and 8 bytes stand before them.
 pub fn replay(image: &mut [u8], tape: &[u8], events: usize, ledger: &mut [u8]) -> Counts
     requires { ⌜ Playable (now image) (now tape) events ⌝ }
     ensures answer { λ r. ⌜ r
-        ≡ countsFrom noCounts (stateIn (now (image .entry))) (runEvents (now (tape .entry))) ⌝ }
-    ensures buffer { λ _. ⌜ now (image .exit)
-        ≡ imageWith (now (image .entry)) (after (stateIn (now (image .entry))) (runEvents (now (tape .entry)))) ⌝ }
-    ensures records { λ _. ⌜ Recorded (runRecords (now (image .entry)) (now (tape .entry))) (now (ledger .entry))
-        (now (ledger .exit)) ⌝ }
+        ≡ countsFrom noCounts (stateIn (now (image .entry))) (firstEvents (now (tape .entry)) events) ⌝ }
+    ensures buffer { λ _. ⌜ now (image .exit) ≡ imageWith (now (image .entry))
+        (after (stateIn (now (image .entry))) (firstEvents (now (tape .entry)) events)) ⌝ }
+    ensures records { λ _. ⌜ Recorded (firstRecords (now (image .entry)) (now (tape .entry)) events)
+        (now (ledger .entry)) (now (ledger .exit)) ⌝ }
 {
     let mut counts = Counts {
         puts: 0,
@@ -56,11 +57,12 @@ pub fn replay(image: &mut [u8], tape: &[u8], events: usize, ledger: &mut [u8]) -
     counts
 }
 
-// How many records the events of the tape have, performed on a copy of the image, with a ledger that takes none.
+// How many records the first `events` events of the tape have, performed on a copy of the image, with a ledger that
+// takes none.
 fn measure(image: &[u8], tape: &[u8], events: usize) -> u64
     requires { ⌜ Playable (now image) (now tape) events ⌝ }
     ensures { λ r. ⌜ r
-        ≡ countsFrom noCounts (stateIn (now (image .entry))) (runEvents (now (tape .entry))) .records ⌝ }
+        ≡ countsFrom noCounts (stateIn (now (image .entry))) (firstEvents (now (tape .entry)) events) .records ⌝ }
 {
     let mut spare = [0u8; 528];
     let mut none = [0u8; 1];
@@ -70,10 +72,10 @@ fn measure(image: &[u8], tape: &[u8], events: usize) -> u64
     counts.records
 }
 
-// Internal: whether a ledger of so many bytes has room for the records of the run, 12 bytes each.
+// Internal: whether a ledger of so many bytes has room for the records of the first `events` events, 12 bytes each.
 pub fn has_room(image: &[u8], tape: &[u8], events: usize, bytes: usize) -> bool
     requires { ⌜ Playable (now image) (now tape) events ⌝ }
-    ensures { λ r. ⌜ r ≡ leb (length (runRecords (now (image .entry)) (now (tape .entry)))) bytes ⌝ }
+    ensures { λ r. ⌜ r ≡ leb (length (firstRecords (now (image .entry)) (now (tape .entry)) events)) bytes ⌝ }
 {
     let room = bytes / 12;
     if events <= room {

@@ -1,9 +1,10 @@
 -- Each way through the run call is that way through the rule. The answers of lower functions are variables here, each
 -- with the rule's value that it is known to be.
-use Prim.Native.Nat.{ℕ, _≤_}
+use Prim.Native.Nat.{ℕ, _-_, _/_, _≤_}
 use mathlib.Core.Path.{_≡_, sym, _∙_}
 use mathlib.Core.Bool.{Bool, true, false}
 use mathlib.Core.List.{List, []}
+use native.Mathlib.Omega.{arith}
 use lib.ListN.{length}
 use lib.Dec.{leb}
 use borrow.Author.Tests.{leb-true, leb-false}
@@ -12,15 +13,17 @@ use Rattle.machine.specs.declared.Refusal.{Refusal}
 use Rattle.machine.specs.declared.Refusal.the-variants as refusal
 use Rattle.machine.specs.declared.Verdict.{Verdict}
 use Rattle.machine.specs.declared.Verdict.the-variants as verdict
-use Rattle.machine.specs.Bytes.{splice}
 use Rattle.machine.specs.Image.{sizeIn, stateIn, imageWith}
 use Rattle.machine.specs.Run.{noCounts, countsFrom, countValues, after}
 use Rattle.machine.specs.Refusals.{orElse, codes, imageVerdict, tapeVerdict}
-use Rattle.machine.specs.Answers.{Answer, answer, runEvents, runRecords, runVerdict, runAnswer, runImage, runLedger}
+use Rattle.machine.specs.Answers.{Answer, answer, runRecords, runVerdict, runAnswer, runImage, runLedger}
 use Rattle.machine.proofs.Laws.Refusals.{first-fine, second-fine, refused-first, fine-then}
 use Rattle.machine.proofs.Laws.Refusals.{inputs-refuse, output-refuses, all-fine}
 use Rattle.tape_test.specs.Accepted.{eventsOn, Accepted}
-use Rattle.replay.specs.Playable.{Playable}
+use Rattle.tape_test.proofs.Blocks.{tape-fine}
+use Rattle.tape_test.proofs.Lengths.{length-list}
+use Rattle.replay.specs.Playable.{Playable, Recorded, firstEvents, firstRecords}
+use Rattle.replay.proofs.First.{all-events, all-records}
 
 module _ (s tape ledger : List ℕ) where
   -- what the contract says of an answer and both buffers
@@ -62,11 +65,23 @@ module _ (s tape ledger : List ℕ) where
     pub run-accepted : Accepted tape
     run-accepted = record { codes = codes; n = sizeIn s; fine = accepted }
 
-    pub playable : {events : ℕ} → events ≡ eventsOn tape → Playable s tape events
-    playable all =
-        record { image-fine = first-fine (imageVerdict s) _ fine; tape-fine = accepted; counted = all }
+    -- an accepted tape has an event
+    pub some-event : 1 ≤ eventsOn tape
+    some-event =
+        let has = tape-fine codes (sizeIn s) tape accepted in
+        let last = length tape / 512 - 1 in
+        omega (arith, has .some, has .blocks last (omega (arith, has .some)) .least, length-list tape has)
 
-    module _ {room : Bool} (measured : room ≡ leb (length (runRecords s tape)) (length ledger)) where
+    pub playable : {events : ℕ} → events ≤ eventsOn tape → Playable s tape events
+    playable some =
+        record { image-fine = first-fine (imageVerdict s) _ fine; tape-fine = accepted; so-many = some }
+
+    -- as many events as are on the tape: all of them, and all of their records
+    module _ {events : ℕ} (all : events ≡ eventsOn tape) {room : Bool}
+        (told : room ≡ leb (length (firstRecords s tape events)) (length ledger)) where
+      measured : room ≡ leb (length (runRecords s tape)) (length ledger)
+      measured = rw (all-records tape all s) at told
+
       pub ledger-refused : room ≡ false → Meets (answer (verdict.Refused refusal.Output) []) s ledger
       unfolding runVerdict
       ledger-refused short =
@@ -74,17 +89,16 @@ module _ (s tape ledger : List ℕ) where
           (output-refuses (imageVerdict s) (tapeVerdict codes (sizeIn s) tape) _ ledger fine
           (leb-false _ _ (sym measured ∙ short)))
 
-      pub has-room : room ≡ true → length (runRecords s tape) ≤ length ledger
-      has-room enough = leb-true _ _ (sym measured ∙ enough)
-
       pub run-done : room ≡ true → {n : Counts} {image records : List ℕ}
-          → n ≡ countsFrom noCounts (stateIn s) (runEvents tape)
-          → image ≡ imageWith s (after (stateIn s) (runEvents tape))
-          → records ≡ splice ledger 0 (runRecords s tape)
+          → n ≡ countsFrom noCounts (stateIn s) (firstEvents tape events)
+          → image ≡ imageWith s (after (stateIn s) (firstEvents tape events))
+          → Recorded (firstRecords s tape events) ledger records
           → Meets (answer verdict.Fine (countValues n)) image records
       unfolding runAnswer runImage runLedger runVerdict
       run-done enough counts wrote entered =
+          let fits = leb-true _ _ (sym measured ∙ enough) in
           let is =
-          all-fine (imageVerdict s) (tapeVerdict codes (sizeIn s) tape) (length (runRecords s tape)) ledger fine
-          (has-room enough) in
-          (rw (counts, is), (wrote ∙ rw is, entered ∙ rw is))
+          all-fine (imageVerdict s) (tapeVerdict codes (sizeIn s) tape) (length (runRecords s tape)) ledger fine fits in
+          let every = all-events tape all in
+          let records = all-records tape all s in
+          (rw (counts, every, is), (wrote ∙ rw (every, is), (rw records at entered) fits ∙ rw is))

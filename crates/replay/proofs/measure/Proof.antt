@@ -3,9 +3,9 @@ use mathlib.Core.Path.{ap, _∙_}
 use native.Mathlib.Omega.{arith}
 use Rattle.machine.specs.declared.Counts.{Counts}
 use Rattle.machine.specs.Image.{State}
-use Rattle.machine.specs.Answers.{runEvents}
 use Rattle.machine.proofs.Laws.Refusals.{image-fine}
 use Rattle.machine.proofs.Tallies.{recordsFrom}
+use Rattle.replay.specs.Playable.{firstEvents}
 use Rattle.replay.proofs.Spare.{spare-state, spare-playable}
 use Rattle.replay.proofs.measure.Statement.{statement}
 use Rattle.replay.proofs.measure.Tie as tie
@@ -49,7 +49,7 @@ returns c =
     let s = start .args .image .now in
     let image = image-fine s (start .pre .image-fine) in
     ap (λ (counts : Counts). counts .records) (played .replay .ensures .0)
-    ∙ ap (λ (st : State). recordsFrom st (runEvents (start .args .tape .now)))
+    ∙ ap (λ (st : State). recordsFrom st (firstEvents (start .args .tape .now) (start .args .events)))
     (spare-state s (start .pre .image-fine)
     (λ k. omega (arith, read .before .before .before .shared-slice-known .given k))
     _ (omega (arith, image .size .most)) (read .wide .ensures .0) (copied .copy .ensures))

@@ -6,7 +6,7 @@ use Rattle.machine.specs.declared.Verdict.the-variants.{Fine}
 use Rattle.machine.specs.Image.{sizeIn}
 use Rattle.machine.specs.Refusals.{orElse, codes, imageVerdict, tapeVerdict}
 use Rattle.numbers.proofs.Verdicts.{handed-on}
-use Rattle.run.proofs.Ways.{run-refused, run-accepted, playable, ledger-refused, has-room, run-done}
+use Rattle.run.proofs.Ways.{run-refused, run-accepted, some-event, playable, ledger-refused, run-done}
 use Rattle.run.proofs.run.Statement.{statement}
 use Rattle.run.proofs.run.Tie as tie
 
@@ -32,21 +32,25 @@ has-room-requires : tie.Need-has-room-requires
 has-room-requires c κs =
     let f = c .before .before in
     let a = f .before .before .before .before .before .before .before .args in
-    playable (a .image .now) (a .tape .now) (a .ledger .now) (fine f) (c .before .event-count .ensures)
+    let counted = c .before .event-count .ensures in
+    playable (a .image .now) (a .tape .now) (a .ledger .now) (fine f) (omega arith)
 
 returns-2 : tie.Need-returns-2
 returns-2 c =
     let f = c .before .before .before .before in
     let a = f .before .before .before .before .before .before .before .args in
-    ledger-refused (a .image .now) (a .tape .now) (a .ledger .now) (fine f) (c .before .has-room .ensures)
+    let counted = c .before .before .before .event-count .ensures in
+    ledger-refused (a .image .now) (a .tape .now) (a .ledger .now) (fine f) counted (c .before .has-room .ensures)
     (not-true _ (c .if1 .taken))
 
+-- one event or none may be asked for too: that not all are performed would show in what the call returns
 replay-requires : tie.Need-replay-requires
 replay-requires c κs =
     let f = c .before .before .before .before .before .before in
     let a = f .before .before .before .before .before .before .before .args in
+    let counted = c .before .before .before .before .before .event-count .ensures in
     playable (a .image .now) (a .tape .now) (a .ledger .now) (fine f)
-    (c .before .before .before .before .before .event-count .ensures)
+    (omega (arith, some-event (a .image .now) (a .tape .now) (a .ledger .now) (fine f)))
 
 returns-3 : tie.Need-returns-3
 returns-3 c =
@@ -54,11 +58,9 @@ returns-3 c =
     let room = p .before .before .before in
     let f = room .before .before .before .before in
     let a = f .before .before .before .before .before .before .before .args in
-    let measured = room .before .has-room .ensures in
-    let enough = not-false _ (room .if1 .left) in
-    let fits = has-room (a .image .now) (a .tape .now) (a .ledger .now) (fine f) measured enough in
-    run-done (a .image .now) (a .tape .now) (a .ledger .now) (fine f) measured enough (p .replay .ensures .0)
-    (p .replay .ensures .1 .0) (p .replay .ensures .1 .1 fits)
+    let counted = room .before .before .before .event-count .ensures in
+    run-done (a .image .now) (a .tape .now) (a .ledger .now) (fine f) counted (room .before .has-room .ensures)
+    (not-false _ (room .if1 .left)) (p .replay .ensures .0) (p .replay .ensures .1 .0) (p .replay .ensures .1 .1)
 
 pub run-spec : {M : Type 1} → statement M
 run-spec =
