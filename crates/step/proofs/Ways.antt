@@ -1,6 +1,6 @@
 -- Each way through the step call is that way through the rule. The answers of lower functions are variables here, each
 -- with the rule's value that it is known to be.
-use Prim.Native.Nat.{ℕ, _+_, _*_}
+use Prim.Native.Nat.{ℕ, _+_, _*_, _≤_}
 use mathlib.Core.Path.{_≡_, _∙_}
 use mathlib.Core.List.{List, []}
 use native.Mathlib.Omega.{arith}
@@ -42,9 +42,10 @@ module _ (s event : List ℕ) where
     unfolding stepVerdict
     accepted = second-fine (imageVerdict s) _ fine
 
-    pub may-turn : Turning s event 0 0 1 0
+    -- the one event, or none: that none was performed would show in what the call returns
+    pub may-turn : {end : ℕ} → end ≤ 1 → Turning s event 0 0 end 0
     unfolding stepVerdict
-    may-turn =
+    may-turn few =
         record {
           fine = first-fine (imageVerdict s) _ fine;
           order = omega arith;

@@ -15,7 +15,7 @@ returns c =
 turns-requires : tie.Need-turns-requires
 turns-requires c κs =
     let v = c .before .before in
-    may-turn _ _ (sym (v .before .before .step-verdict .ensures) ∙ v .enum-told .given .1)
+    may-turn _ _ (sym (v .before .before .step-verdict .ensures) ∙ v .enum-told .given .1) (omega arith)
 
 returns-2 : tie.Need-returns-2
 returns-2 c =
