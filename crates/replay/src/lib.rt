@@ -66,8 +66,8 @@ fn measure(image: &[u8], tape: &[u8], events: usize) -> u64
 {
     let mut spare = [0u8; 528];
     let mut none = [0u8; 1];
-    let length = 16 + 8 * wide(image[0]);
-    copy(image, 0, &mut spare, 0, length);
+    let bytes = 16 + 8 * wide(image[0]);
+    copy(image, 0, &mut spare, 0, bytes);
     let counts = replay(&mut spare, tape, events, &mut none);
     counts.records
 }

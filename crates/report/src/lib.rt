@@ -43,11 +43,11 @@ fn given(input: &[u8], k: usize) -> u64
     0
 }
 
-// Where the blocks begin: behind N and home, or at the end of a shorter input.
-fn blocks_from(length: usize) -> usize
-    ensures { λ r. ⌜ r ≡ min 2 length ⌝ }
+// Where the blocks begin in an input of so many bytes: behind N and home, or at the end of a shorter one.
+fn blocks_from(bytes: usize) -> usize
+    ensures { λ r. ⌜ r ≡ min 2 bytes ⌝ }
 {
-    if length < 2 { length } else { 2 }
+    if bytes < 2 { bytes } else { 2 }
 }
 
 // The text of a tape of at most 64 blocks, performed from an image that is known to be sound: at the page's start. The

@@ -17,8 +17,7 @@ use Rattle.machine.specs.Image.{sizeIn, stateIn, imageWith}
 use Rattle.machine.specs.Run.{noCounts, countsFrom, countValues, after}
 use Rattle.machine.specs.Refusals.{orElse, codes, imageVerdict, tapeVerdict}
 use Rattle.machine.specs.Answers.{Answer, answer, runRecords, runVerdict, runAnswer, runImage, runLedger}
-use Rattle.machine.proofs.Laws.Refusals.{first-fine, second-fine, refused-first, fine-then}
-use Rattle.machine.proofs.Laws.Refusals.{inputs-refuse, output-refuses, all-fine}
+use Rattle.machine.proofs.Laws.Refusals.{first-fine, second-fine, inputs-refuse, output-refuses, all-fine}
 use Rattle.tape_test.specs.Accepted.{eventsOn, Accepted}
 use Rattle.tape_test.proofs.Blocks.{tape-fine}
 use Rattle.tape_test.proofs.Lengths.{length-list}
@@ -37,20 +36,9 @@ module _ (s tape ledger : List ℕ) where
   unfolding runAnswer runImage runLedger
   refused r is = (rw is, (rw is, rw is))
 
-  -- ---- the inputs' verdict
-
-  -- the rule's
+  -- the inputs' verdict
   abbrev given : Verdict
   given = orElse (imageVerdict s) (tapeVerdict codes (sizeIn s) tape)
-
-  module _ {v : Verdict} (tested : v ≡ imageVerdict s) where
-    pub by-image : {r : Refusal} → v ≡ verdict.Refused r → v ≡ given
-    by-image e = refused-first (tapeVerdict codes (sizeIn s) tape) tested e
-
-    pub by-tape : v ≡ verdict.Fine → {n : ℕ} {w : Verdict} → n ≡ sizeIn s → w ≡ tapeVerdict codes n tape → w ≡ given
-    by-tape e size found = fine-then tested e (found ∙ rw size)
-
-  -- ---- the call
 
   pub run-refused : {r : Refusal} → given ≡ verdict.Refused r → Meets (answer (verdict.Refused r) []) s ledger
   unfolding runVerdict

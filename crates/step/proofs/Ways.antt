@@ -5,33 +5,17 @@ use mathlib.Core.Path.{_≡_, _∙_}
 use mathlib.Core.List.{List, []}
 use native.Mathlib.Omega.{arith}
 use Rattle.machine.specs.declared.Refusal.{Refusal}
-use Rattle.machine.specs.declared.Verdict.{Verdict}
 use Rattle.machine.specs.declared.Verdict.the-variants as verdict
 use Rattle.machine.specs.Image.{sizeIn, stateIn}
 use Rattle.machine.specs.Lists.{tabulate}
 use Rattle.machine.specs.Run.{after}
 use Rattle.machine.specs.Refusals.{codes, imageVerdict, eventVerdict}
 use Rattle.machine.specs.Answers.{answer, outcomeValues, stepVerdict, stepAnswer, stepImage}
-use Rattle.machine.proofs.Laws.Refusals.{first-fine, second-fine, refused-first, fine-then, accepted-long}
-use Rattle.machine.proofs.Laws.Refusals.{accepted-fits}
+use Rattle.machine.proofs.Laws.Refusals.{first-fine, second-fine, accepted-long, accepted-fits}
 use Rattle.turns.specs.declared.Tally.{Tally}
 use Rattle.turns.specs.Turns.{eventsFrom, lastFrom, Turning, Tallied, Ran}
 
 module _ (s event : List ℕ) where
-  -- ---- the verdict
-
-  module _ {v : Verdict} (tested : v ≡ imageVerdict s) where
-    pub by-image : {r : Refusal} → v ≡ verdict.Refused r → v ≡ stepVerdict s event
-    unfolding stepVerdict
-    by-image e = refused-first (eventVerdict codes (sizeIn s) event) tested e
-
-    pub by-event : v ≡ verdict.Fine → {n : ℕ} {w : Verdict} → n ≡ sizeIn s → w ≡ eventVerdict codes n event
-        → w ≡ stepVerdict s event
-    unfolding stepVerdict
-    by-event e size found = fine-then tested e (found ∙ rw size)
-
-  -- ---- the call
-
   pub step-refused : {r : Refusal} → stepVerdict s event ≡ verdict.Refused r
       → (answer (verdict.Refused r) [] ≡ stepAnswer s event) × (s ≡ stepImage s event)
   unfolding stepAnswer stepImage

@@ -15,11 +15,11 @@ shared-slice-read-wide c =
     let start = c .before .before .before in
     omega (arith, image-fine (start .args .image .now) (start .pre .image-fine) .header)
 
-mul-length : tie.Need-mul-length
-mul-length c = omega (arith, c .wide .ensures .1)
+mul-bytes : tie.Need-mul-bytes
+mul-bytes c = omega (arith, c .wide .ensures .1)
 
-add-length : tie.Need-add-length
-add-length c = omega (arith, c .wide .ensures .1)
+add-bytes : tie.Need-add-bytes
+add-bytes c = omega (arith, c .wide .ensures .1)
 
 copy-requires : tie.Need-copy-requires
 copy-requires c κs =
@@ -57,5 +57,5 @@ returns c =
 pub measure-spec : {M : Type 1} → statement M
 measure-spec =
     tie.close
-    (tie.spec shared-slice-read-wide (λ c κs. tt) mul-length add-length (λ c. omega arith) copy-requires
+    (tie.spec shared-slice-read-wide (λ c κs. tt) mul-bytes add-bytes (λ c. omega arith) copy-requires
     (λ c. omega arith) (λ c. omega arith) replay-requires returns)

@@ -1,16 +1,12 @@
 -- The image first, then the tape, by the size that the image has.
 use mathlib.Core.Path.{sym, _∙_}
 use native.Mathlib.Omega.{arith}
-use Rattle.machine.proofs.Laws.Refusals.{image-fine}
-use Rattle.run.proofs.Ways.{by-image, by-tape}
+use Rattle.machine.proofs.Laws.Refusals.{refused-first, fine-then, image-fine}
 use Rattle.run.proofs.inputs_verdict.Statement.{statement}
 use Rattle.run.proofs.inputs_verdict.Tie as tie
 
 returns : tie.Need-returns
-returns c =
-    let a = c .before .before .before .before .before .args in
-    by-image (a .image .now) (a .tape .now) (a .tape .now) (c .before .before .image-verdict .ensures)
-    (c .enum-told2 .given .1)
+returns c = refused-first _ (c .before .before .image-verdict .ensures) (c .enum-told2 .given .1)
 
 shared-slice-read-wide : tie.Need-shared-slice-read-wide
 shared-slice-read-wide c =
@@ -21,10 +17,8 @@ shared-slice-read-wide c =
 returns-2 : tie.Need-returns-2
 returns-2 c =
     let t = c .before .before .before in
-    let a = t .before .before .before .before .before .args in
-    by-tape (a .image .now) (a .tape .now) (a .tape .now) (t .before .before .image-verdict .ensures)
-    (t .enum-told .given .1)
-    (c .before .wide .ensures .0) (c .tape-verdict .ensures)
+    fine-then (t .before .before .image-verdict .ensures) (t .enum-told .given .1)
+    (c .tape-verdict .ensures ∙ rw (c .before .wide .ensures .0))
 
 pub inputs-verdict-spec : {M : Type 1} → statement M
 inputs-verdict-spec =

@@ -1,15 +1,14 @@
 -- The image first, then the event, by the size that the image has.
 use mathlib.Core.Path.{sym, _∙_}
 use native.Mathlib.Omega.{arith}
-use Rattle.machine.proofs.Laws.Refusals.{image-fine}
-use Rattle.step.proofs.Ways.{by-image, by-event}
+use Rattle.machine.specs.Answers.{stepVerdict}
+use Rattle.machine.proofs.Laws.Refusals.{refused-first, fine-then, image-fine}
 use Rattle.step.proofs.step_verdict.Statement.{statement}
 use Rattle.step.proofs.step_verdict.Tie as tie
 
 returns : tie.Need-returns
-returns c =
-    let a = c .before .before .before .before .before .args in
-    by-image (a .image .now) (a .event .now) (c .before .before .image-verdict .ensures) (c .enum-told2 .given .1)
+unfolding stepVerdict
+returns c = refused-first _ (c .before .before .image-verdict .ensures) (c .enum-told2 .given .1)
 
 shared-slice-read-wide : tie.Need-shared-slice-read-wide
 shared-slice-read-wide c =
@@ -18,11 +17,11 @@ shared-slice-read-wide c =
     omega (arith, fine .header)
 
 returns-2 : tie.Need-returns-2
+unfolding stepVerdict
 returns-2 c =
     let t = c .before .before .before in
-    let a = t .before .before .before .before .before .args in
-    by-event (a .image .now) (a .event .now) (t .before .before .image-verdict .ensures) (t .enum-told .given .1)
-    (c .before .wide .ensures .0) (c .verdict .ensures)
+    fine-then (t .before .before .image-verdict .ensures) (t .enum-told .given .1)
+    (c .verdict .ensures ∙ rw (c .before .wide .ensures .0))
 
 pub step-verdict-spec : {M : Type 1} → statement M
 step-verdict-spec =
