@@ -1,10 +1,10 @@
-# make test: the gate. The layout, then every listed crate proved from nothing with its must-fail edits and programs,
-# then the archives of the host library, made of what was proved, and the Rust packages over them: their layout and
-# lints, where cargo has fmt and clippy, and their tests; then every sample through ringrun, then rt ci's own closing
-# line as the very last line, which is printed only if all of that passed.
+# make test: the gate. Layout and length of lines, then every listed crate proved from nothing with its must-fail edits
+# and programs, then the archives of the host library, made of what was proved, and the Rust packages over them: their
+# layout and lints, where cargo has fmt and clippy, and their tests; then every sample through ringrun, then rt ci's own
+# closing line as the very last line, which is printed only if all of that passed.
 #
-# make check: the loop while editing. The layout, and what has changed since it was last proved; no edits and no Rust.
-# CRATES names crates, and what they lean on is proved with them.
+# make check: the loop while editing. Layout, length of lines, and what has changed since it was last proved; no edits
+# and no Rust. CRATES names crates, and what they lean on is proved with them.
 #
 # make run: builds ringrun, proved, and runs it on a sample, or on the file that IN names.
 #
@@ -12,8 +12,8 @@
 #
 # make count: the instructions of an event and of a call on either side, by callgrind; it needs valgrind.
 #
-# rt ci's lines are shown as they come, each once the next one is there, so that the closing line can wait until the end.
-# They and rt ci's exit status, which a pipe would lose, are kept outside target/, which rt ci removes.
+# rt ci's lines are shown as they come, each once the next one is there, so that the closing line can wait until the
+# end. They and rt ci's exit status, which a pipe would lose, are kept outside target/, which rt ci removes.
 # RING_HOST_DIR would have the packages link archives from elsewhere, so it is unset. Ignored tests are run too.
 
 SHELL := /bin/sh
@@ -27,6 +27,7 @@ test:
 	kept=$$(mktemp -d); \
 	trap 'rm -rf "$$kept"' EXIT; \
 	rt fmt --check; \
+	.ci/lines; \
 	{ rt ci 2>&1 || echo $$? >"$$kept/failed"; } | tee "$$kept/log" | sed -u '$$d'; \
 	closing=$$(tail -n 1 "$$kept/log"); \
 	if [ -e "$$kept/failed" ]; then \
@@ -48,6 +49,7 @@ test:
 
 check:
 	@rt fmt --check
+	@.ci/lines
 	@rt check $(CRATES)
 
 run:

@@ -200,8 +200,8 @@ not-stopped-without-take n home two few below vs on-ring put-ended ws then-on-ri
 
 -- ---- no stop without a get
 
--- more puts have ended than gets were started, and ends are never fewer; when it is stopped as many gets have ended, and
--- no more end than start: so one has been started since
+-- more puts have ended than gets were started, and ends are never fewer; when it is stopped as many gets have ended,
+-- and no more end than start: so one has been started since
 pub no-stop-without-get : NoStopWithoutGet
 unfolding totalsFrom
 no-stop-without-get n home two few below vs on-ring alone ws then-on-ring none halt =

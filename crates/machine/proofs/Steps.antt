@@ -63,8 +63,8 @@ either-true : (b : Bool) → b || true ≡ true
 either-true true = refl
 either-true false = refl
 
--- at a process of an accepted image, with one of the eight codes, it is accepted, and the step does and answers what the
--- rule does
+-- at a process of an accepted image, with one of the eight codes, it is accepted, and the step does and answers what
+-- the rule does
 module _ (s : List ℕ) (fine : imageVerdict s ≡ Fine) (i code : ℕ) (on-ring : i < sizeIn s) (known : code < codes) where
   abbrev plain : List ℕ
   plain = i ∷ code ∷ 0 ∷ 0 ∷ 0 ∷ 0 ∷ 0 ∷ 0 ∷ []

@@ -58,8 +58,8 @@ pub record EndsAlone (n home : ℕ) (crosses outlives ends : List Event) : Type 
 
 -- ---- not stopped until a get has taken the message
 
--- what holds of every ring that a list of events comes to, if Q holds of it and of what was counted so far, and of every
--- further list of events from there
+-- what holds of every ring that a list of events comes to, if Q holds of it and of what was counted so far, and of
+-- every further list of events from there
 abbrev pub Thereafter : (State → Totals → Type 0) → (State → List Event → Type 0) → Type 0
 Thereafter Q P =
     (n home : ℕ) → least ≤ n → n ≤ most → home < n → (vs : List Event) → onRing n vs ≡ true

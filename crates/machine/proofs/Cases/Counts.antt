@@ -1,6 +1,6 @@
--- Each of the eight counts has its own place, in the run's answer and in ringrun's line: entries 1 and 3 and two runs of
--- entry 10's lists, in which puts ended and gets ended differ. In no two places do all four runs have the same number,
--- so that no two counts can be exchanged unseen. The checker computes it.
+-- Each of the eight counts has its own place, in the run's answer and in ringrun's line: entries 1 and 3, and two runs
+-- of entry 10's lists, in which puts ended and gets ended differ. In no two places do all four runs have the same
+-- number, so that no two counts can be exchanged unseen. The checker computes it.
 use Prim.Native.Nat.{ℕ}
 use mathlib.Core.Path.{_≡_, refl}
 use mathlib.Core.Bool.{Bool, true, not, _||_}
