@@ -1,6 +1,6 @@
--- The stopped call is never refused after a list of calls, since the image is accepted, and its yes is the rule's:
--- events 2 to 7 are idle at every process, and a step with one of them answers just that outcome. A host with room for
--- the result reads the call's own answer.
+-- The stopped call is never refused after a list of calls, since the image is accepted, and its yes is the rule's: each
+-- of events 2 to 7 is idle wherever it is tried, and a step with it answers just that outcome. A host with room for the
+-- result reads the call's own answer.
 use Prim.Native.Nat.{ℕ, _≤_, _<_}
 use mathlib.Core.Path.{_≡_, refl, sym, ap, _∙_}
 use mathlib.Core.Bool.{Bool, true, false}
