@@ -17,7 +17,7 @@ use lib.Dec.{lit<}
 use Rattle.machine.specs.declared.Verdict.the-variants.{Fine}
 use Rattle.machine.specs.Bytes.{Bytes, bit}
 use Rattle.machine.specs.Ring.{least, most, imageLength}
-use Rattle.machine.specs.Image.{sizeIn, stateIn, imageWith}
+use Rattle.machine.specs.Image.{stateIn, imageWith}
 use Rattle.machine.specs.Fields.{Status, count}
 use Rattle.machine.specs.Fresh.{freshEnvelope, freshState}
 use Rattle.machine.specs.Stopped.{stopped}
