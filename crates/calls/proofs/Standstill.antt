@@ -23,7 +23,7 @@ use Rattle.machine.proofs.Steps.{step-answers}
 use Rattle.machine.proofs.Stopped.{stopped-means, means-stopped}
 use Rattle.calls.specs.Calls.{value}
 use Rattle.calls.specs.Demand.{SaysStopped}
-use Rattle.calls.specs.Standstill.{AllIdle, SaysMoving, Tells, StandstillTold, wordTold, TellsHost}
+use Rattle.calls.specs.Standstill.{AllIdle, SaysMoving, SaysExactly, StandstillTold, wordTold, TellsExactly}
 use Rattle.calls.specs.Standstill.{StandstillToldToHost}
 use Rattle.calls.proofs.Demand.{told-flag, says-stopped, all-reached}
 use Rattle.calls.proofs.Suite.{word-read, host-reached}
@@ -56,7 +56,7 @@ module _ (n : ℕ) (image : List ℕ) (fine : imageVerdict image ≡ Fine) (size
       idle-only _
       (ap (λ (a : Answer). value a 0) (sym steps ∙ each i (omega (arith, size)) code low high)))
 
-  pub tells : Tells n image
+  pub tells : SaysExactly n image
   tells =
       record {
         answered = by-flag (stopped (stateIn image)) (told-flag image fine);
@@ -68,7 +68,7 @@ module _ (n : ℕ) (image : List ℕ) (fine : imageVerdict image ≡ Fine) (size
       by-flag true is = inl is
       by-flag false is = inr is
 
-  pub tells-host : (result : List ℕ) → 80 ≤ length result → TellsHost n image result
+  pub tells-host : (result : List ℕ) → 80 ≤ length result → TellsExactly n image result
   tells-host result room =
       let read = word-read image fine result room in
       record {

@@ -24,13 +24,13 @@ abbrev pub SaysMoving : List ℕ → Type 0
 SaysMoving image = stoppedAnswer image ≡ record { number = 0; values = 0 ∷ [] }
 
 -- it is never refused, and says yes exactly when all are idle
-pub record Tells (n : ℕ) (image : List ℕ) : Type 0 where
+pub record SaysExactly (n : ℕ) (image : List ℕ) : Type 0 where
   pub answered : SaysStopped image ⊎ SaysMoving image
   pub yes-means : SaysStopped image → AllIdle n image
   pub means-yes : AllIdle n image → SaysStopped image
 
 abbrev pub StandstillTold : Type 0
-StandstillTold = AfterEveryList (λ n image t. Tells n image)
+StandstillTold = AfterEveryList (λ n image t. SaysExactly n image)
 
 -- ---- to the suite's host
 
@@ -39,7 +39,7 @@ abbrev pub wordTold : List ℕ → List ℕ → ℕ
 wordTold image result = number (resultAfter (stoppedAnswer image) result) 0 8
 
 -- the stopped call returns 0, and the word reads 1 exactly when all are idle, else 0
-pub record TellsHost (n : ℕ) (image result : List ℕ) : Type 0 where
+pub record TellsExactly (n : ℕ) (image result : List ℕ) : Type 0 where
   pub not-refused : returned (stoppedAnswer image) result ≡ 0
   pub answered : (wordTold image result ≡ 1) ⊎ (wordTold image result ≡ 0)
   pub one-means : wordTold image result ≡ 1 → AllIdle n image
@@ -48,4 +48,4 @@ pub record TellsHost (n : ℕ) (image result : List ℕ) : Type 0 where
 -- with every result slice of at least 80 bytes
 abbrev pub StandstillToldToHost : Type 0
 StandstillToldToHost =
-    AfterEveryHostList (λ n image t. (result : List ℕ) → 80 ≤ length result → TellsHost n image result)
+    AfterEveryHostList (λ n image t. (result : List ℕ) → 80 ≤ length result → TellsExactly n image result)
