@@ -23,7 +23,8 @@ use Rattle.machine.proofs.Steps.{step-answers}
 use Rattle.machine.proofs.Stopped.{stopped-means, means-stopped}
 use Rattle.calls.specs.Calls.{value}
 use Rattle.calls.specs.Demand.{SaysStopped}
-use Rattle.calls.specs.Standstill.{AllIdle, SaysMoving, SaysExactly, StandstillTold, wordTold, TellsExactly}
+use Rattle.calls.specs.Suite.{wordTold}
+use Rattle.calls.specs.Standstill.{AllIdle, SaysMoving, SaysExactly, StandstillTold, TellsExactly}
 use Rattle.calls.specs.Standstill.{StandstillToldToHost}
 use Rattle.calls.proofs.Demand.{told-flag, says-stopped, all-reached}
 use Rattle.calls.proofs.Suite.{word-read, host-reached}

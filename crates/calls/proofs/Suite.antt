@@ -15,7 +15,7 @@ use Rattle.machine.specs.declared.Outcome.{Outcome}
 use Rattle.machine.specs.declared.Outcome.the-variants.{Idle, Moved, Fill, Take, Sent, Got}
 use Rattle.machine.specs.declared.Verdict.{Verdict}
 use Rattle.machine.specs.declared.Verdict.the-variants.{Fine, Refused}
-use Rattle.machine.specs.Bytes.{Bytes, bit, number}
+use Rattle.machine.specs.Bytes.{Bytes, bit}
 use Rattle.machine.specs.Lists.{tabulate}
 use Rattle.machine.specs.Ring.{least, most, imageLength}
 use Rattle.machine.specs.Image.{sizeIn, stateIn}
@@ -27,7 +27,7 @@ use Rattle.machine.specs.Tape.{eventIn}
 use Rattle.machine.specs.Refusals.{numberOf, codes, imageVerdict, tapeVerdict}
 use Rattle.machine.specs.Answers.{Answer, answer, freshImage, outcomeValues, stepVerdict, stepAnswer, stepImage}
 use Rattle.machine.specs.Answers.{runEvents, runVerdict, runAnswer, runImage, runLedger, stoppedAnswer}
-use Rattle.machine.specs.Host.{returned, resultAfter, lentWith}
+use Rattle.machine.specs.Host.{returned, lentWith}
 use Rattle.machine.proofs.Laws.Bytes.{lt-or-ge, number-lt}
 use Rattle.machine.proofs.Laws.Bits.{bit-le}
 use Rattle.machine.proofs.Image.Stored.{length-state}
@@ -44,7 +44,7 @@ use Rattle.calls.specs.Calls.{Call, nothing, value, stepShows, runShows,
 use Rattle.calls.specs.Calls.Call.{Step, Run, Stopped}
 use Rattle.calls.specs.Demand.{SaysStopped, given, GivenBytes}
 use Rattle.calls.specs.Suite.{HostCall, hostImage, hostImageAll, answerRead, hostAnswer, hostShown, hostShownAll}
-use Rattle.calls.specs.Suite.{TellsStopped, SuiteDemand}
+use Rattle.calls.specs.Suite.{wordTold, TellsStopped, SuiteDemand}
 use Rattle.calls.proofs.Messages.{outcome-small}
 use Rattle.calls.proofs.Shown.{plus-nothing, nothing-plus, plus-assoc, step-refused, run-refused}
 use Rattle.calls.proofs.Calls.{Reached, unchanged, call-kept}
@@ -194,7 +194,7 @@ module _ (image : List ℕ) (fine : imageVerdict image ≡ Fine) where
 
   -- with at least 80 bytes it is told the call's own answer
   pub word-read : (result : List ℕ) → 80 ≤ length result
-      → (returned (stoppedAnswer image) result ≡ 0) × (number (resultAfter (stoppedAnswer image) result) 0 8 ≡ flag)
+      → (returned (stoppedAnswer image) result ≡ 0) × (wordTold image result ≡ flag)
   unfolding tabulate
   word-read result room =
       let fits : flag < 2 ^ 64 = omega (arith, bit-le (stopped (stateIn image))) in

@@ -1,6 +1,6 @@
--- The demand is not empty: entry 1's events by a run, a step and another run, with refused and stopped calls in
--- between, make a list that ends stopped, with all that can happen in it; and the same list by the suite's host shows
--- the same to it. The checker computes both.
+-- The demand is not empty: entry 1's events by a run, a step and another run, with refused and stopped calls and an
+-- idle step in between, make a list that ends stopped, with a fill, a take, a sent and a got in it; and the same list
+-- by the suite's host shows the same to it. The checker computes both.
 use Prim.Native.Nat.{ℕ, _≤_, _<_}
 use mathlib.Core.Path.{_≡_, refl}
 use mathlib.Core.Bool.{Bool, true}
@@ -34,11 +34,11 @@ pub both-refused : (stepAnswer ring [] ≡ refused 5 0) × (runAnswer ring offRi
 unfolding rules ring offRing
 both-refused = (refl, refl)
 
--- the get that the last ten events begin with starts by a step
+-- the get that the last ten events begin with starts by a step; another at the same process is idle
 unfoldable pub calls : List Call
 calls =
     Step [] ∷ Run offRing [] ∷ Run (tapeOf firstTen) (replicate 12 255) ∷ Stopped ∷ Step (event 0 1 0)
-    ∷ Run (tapeOf (drop 8 lastTen)) (replicate 37 255) ∷ Stopped ∷ []
+    ∷ Step (event 0 1 0) ∷ Run (tapeOf (drop 8 lastTen)) (replicate 37 255) ∷ Stopped ∷ []
 
 -- a put and a get ended, a message filled and taken, and the ring stopped
 pub all-ended :
@@ -67,7 +67,8 @@ hostCalls =
     by result (Step []) ∷ by result (Run offRing [])
     ∷ by short (Run (tapeOf firstTen) (replicate 12 255)) ∷ by result (Run (tapeOf firstTen) (replicate 12 255))
     ∷ by result Stopped ∷ by short (Step (event 0 1 0)) ∷ by result (Step (event 0 1 0))
-    ∷ by result (Run (tapeOf (drop 8 lastTen)) (replicate 37 255)) ∷ by result Stopped ∷ []
+    ∷ by result (Step (event 0 1 0)) ∷ by result (Run (tapeOf (drop 8 lastTen)) (replicate 37 255))
+    ∷ by result Stopped ∷ []
 
 -- they show the same to the host, and it is then told that the ring is stopped
 pub all-told :

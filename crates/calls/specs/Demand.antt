@@ -47,9 +47,9 @@ given Stopped = []
 abbrev pub GivenBytes : List Call → Type 0
 GivenBytes calls = (k : ℕ) → k < length calls → Bytes (given (getD calls k Stopped))
 
--- for every ring of 2 to 64, every home, every buffer with room for the image, whatever its bytes, and every list of
--- calls, refused ones included, or none, from what the fresh ring call writes: what holds of n, of the image after the
--- list and of what the calls showed
+-- for every ring of 2 to 64, every home, every buffer of bytes with room for the image, whatever they are, and every
+-- list of calls that are given bytes, refused ones included, or none, from what the fresh ring call writes: what holds
+-- of n, of the image after the list and of what the calls showed
 abbrev pub AfterEveryList : (ℕ → List ℕ → Totals → Type 0) → Type 0
 AfterEveryList P =
     (n home : ℕ) → least ≤ n → n ≤ most → home < n → (buffer : List ℕ) → Bytes buffer → imageLength n ≤ length buffer

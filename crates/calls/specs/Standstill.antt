@@ -5,11 +5,10 @@ use mathlib.Core.Path.{_≡_}
 use mathlib.Core.List.{List, [], _∷_}
 use mathlib.Core.Logic.{_⊎_}
 use lib.ListN.{length}
-use Rattle.machine.specs.Bytes.{number}
 use Rattle.machine.specs.Answers.{stepAnswer, stoppedAnswer}
-use Rattle.machine.specs.Host.{returned, resultAfter}
+use Rattle.machine.specs.Host.{returned}
 use Rattle.calls.specs.Demand.{SaysStopped, AfterEveryList}
-use Rattle.calls.specs.Suite.{AfterEveryHostList}
+use Rattle.calls.specs.Suite.{wordTold, AfterEveryHostList}
 
 -- a step with any of the events 2 to 7, at any of n processes, would answer idle, which is outcome 0 with message 0
 abbrev pub AllIdle : ℕ → List ℕ → Type 0
@@ -33,10 +32,6 @@ abbrev pub StandstillTold : Type 0
 StandstillTold = AfterEveryList (λ n image t. SaysExactly n image)
 
 -- ---- to the suite's host
-
--- the first word of a result slice, as the stopped call leaves it
-abbrev pub wordTold : List ℕ → List ℕ → ℕ
-wordTold image result = number (resultAfter (stoppedAnswer image) result) 0 8
 
 -- the stopped call returns 0, and the word reads 1 exactly when all are idle, else 0
 pub record TellsExactly (n : ℕ) (image result : List ℕ) : Type 0 where

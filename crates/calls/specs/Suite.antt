@@ -53,15 +53,17 @@ hostShownAll image (c ∷ cs) = plus (hostShown image c) (hostShownAll (hostImag
 
 -- ---- the demand
 
+-- the first word of a result slice, as the stopped call leaves it
+abbrev pub wordTold : List ℕ → List ℕ → ℕ
+wordTold image result = number (resultAfter (stoppedAnswer image) result) 0 8
+
 -- there is a result slice with which the stopped call returns 0, and whose first word then reads 1
 abbrev pub TellsStopped : List ℕ → Type 0
-TellsStopped image =
-    (result : List ℕ) × (returned (stoppedAnswer image) result ≡ 0)
-    × (number (resultAfter (stoppedAnswer image) result) 0 8 ≡ 1)
+TellsStopped image = (result : List ℕ) × (returned (stoppedAnswer image) result ≡ 0) × (wordTold image result ≡ 1)
 
--- for every ring of 2 to 64, every home, every buffer with room for the image, and every list of the host's calls,
--- refused ones and short result slices included, or none, from what the fresh ring call writes; of ledgers and result
--- slices nothing need be known
+-- for every ring of 2 to 64, every home, every buffer of bytes with room for the image, and every list of the host's
+-- calls, refused ones and short result slices included, or none, from what the fresh ring call writes: what holds of n,
+-- of the image after the list and of what the calls showed to the host. Of ledgers and result slices nothing is asked
 abbrev pub AfterEveryHostList : (ℕ → List ℕ → Totals → Type 0) → Type 0
 AfterEveryHostList P =
     (n home : ℕ) → least ≤ n → n ≤ most → home < n → (buffer : List ℕ) → Bytes buffer → imageLength n ≤ length buffer

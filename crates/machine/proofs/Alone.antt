@@ -3,30 +3,34 @@
 -- event by event: where the envelope is full and nobody is in stages 4 and 5, clause E says that one more put has ended
 -- than messages were taken. Puts ended never fall. When the ring is stopped as many gets as puts have ended, and no
 -- more gets end than messages are taken: so a message has been taken since, and since they are taken in the order in
--- which they were filled, the envelope's own before any other.
+-- which they were filled, the envelope's own before any other. Where nobody receives either, all gets that were started
+-- have ended, one fewer than puts: so another must start.
 use Prim.Native.Nat.{ℕ, _+_, _≤_}
 use mathlib.Core.Path.{_≡_, refl, sym, ap, _∙_}
-use mathlib.Core.Bool.{true, false}
+use mathlib.Core.Bool.{Bool, true, false, _&&_}
 use mathlib.Core.List.{List, [], _∷_, _++_, append-assoc, append-cancel-left, head-eq-of-cons-eq, cons≢nil}
 use native.Mathlib.Omega.{arith}
 use lib.ListN.{length, length-append}
-use lib.Dec.{lit<}
+use lib.Dec.{leb, lit<}
+use borrow.Author.Tests.{leb-true, le-leb}
 use Rattle.machine.specs.declared.Counts.{Counts}
+use Rattle.machine.specs.Bytes.{bit}
 use Rattle.machine.specs.Image.{State}
-use Rattle.machine.specs.Stages.{filled}
+use Rattle.machine.specs.Stages.{filled, receiving}
 use Rattle.machine.specs.Fresh.{freshState}
-use Rattle.machine.specs.Events.{Event}
+use Rattle.machine.specs.Events.{Event, processAt}
 use Rattle.machine.specs.Stopped.{stopped, Stopped}
 use Rattle.machine.specs.Run.{countsFrom, noCounts, after}
 use Rattle.machine.specs.Balance.{filledFrom, takenFrom, ownMessage, Totals, totalsOf, totalsFrom, onRing}
-use Rattle.machine.specs.Alone.{PutEnded, EndsAlone, OncePutEnded, NoStopWithoutTake, StoppedOnceTaken}
-use Rattle.machine.specs.Alone.{NoStopWithoutGet}
+use Rattle.machine.specs.Alone.{PutEnded, EndsAlone, OneMoreSent, Thereafter, NoStopWithoutTake}
+use Rattle.machine.specs.Alone.{StoppedOnceTaken, NoStopWithoutGet}
 use Rattle.machine.proofs.Cases.Computed.{rules}
 use Rattle.machine.proofs.Image.Fresh.{length-fresh}
 use Rattle.machine.proofs.Stopped.{stopped-means}
 use Rattle.machine.proofs.Runs.{length-after}
 use Rattle.machine.proofs.Tallies.{gets-add, sent-add}
-use Rattle.machine.proofs.Balance.Clauses.{Invariant}
+use Rattle.machine.proofs.Soundness.Sums.{parts-le}
+use Rattle.machine.proofs.Balance.Clauses.{emptied, Invariant}
 use Rattle.machine.proofs.Balance.Kept.{events-kept}
 use Rattle.machine.proofs.Balance.Still.{refuted}
 use Rattle.machine.proofs.Balance.Standstill.{ended}
@@ -88,7 +92,6 @@ two-alone = (
         record {
           put-ended = record { is-full = refl; nobody = refl };
           no-receiver = record { marker = refl; nobody = refl };
-          more-sent = lit< tt;
           moving = refl;
         };
   },
@@ -110,7 +113,6 @@ three-alone = (
         record {
           put-ended = record { is-full = refl; nobody = refl };
           no-receiver = record { marker = refl; nobody = refl };
-          more-sent = lit< tt;
           moving = refl;
         };
   },
@@ -127,9 +129,9 @@ first-is m all [] others positive same = absurd (omega arith)
 first-is m all (x ∷ later) others positive same =
     (later, ap (λ (k : ℕ). k ∷ later) (sym (head-eq-of-cons-eq same)))
 
--- a ring with the invariant, full and with its put ended, and events from there on
+-- a ring with the invariant, full and with its put ended
 module _ (st : State) (c : Counts) (fills takes : List ℕ) (inv : Invariant st (totalsOf c fills takes))
-    (put-ended : PutEnded st) (ws : List Event) (on-ring : onRing (length (st .processes)) ws ≡ true) where
+    (put-ended : PutEnded st) where
   -- the envelope's own message
   abbrev message : ℕ
   message = st .envelope .message
@@ -148,33 +150,36 @@ module _ (st : State) (c : Counts) (fills takes : List ℕ) (inv : Invariant st 
         ap length filled-last ∙ length-append takes (message ∷ []),
       )
 
-  -- the invariant after the events
-  kept : Invariant (after st ws) (totalsOf (countsFrom c st ws) (fills ++ filledFrom st ws) (takes ++ takenFrom st ws))
-  kept = events-kept ws st c fills takes inv on-ring
+  -- and events from there on
+  module _ (ws : List Event) (on-ring : onRing (length (st .processes)) ws ≡ true) where
+    -- the invariant after the events
+    kept :
+        Invariant (after st ws) (totalsOf (countsFrom c st ws) (fills ++ filledFrom st ws) (takes ++ takenFrom st ws))
+    kept = events-kept ws st c fills takes inv on-ring
 
-  -- where it is stopped, something was taken
-  some-taken : Stopped (after st ws) → 1 ≤ length (takenFrom st ws)
-  some-taken halt =
-      omega (
-        arith,
-        one-more,
-        sent-add ws st c,
-        ended (after st ws) _ kept halt .0,
-        kept .counted .takes,
-        length-append takes (takenFrom st ws),
-      )
+    -- where it is stopped, something was taken
+    some-taken : Stopped (after st ws) → 1 ≤ length (takenFrom st ws)
+    some-taken halt =
+        omega (
+          arith,
+          one-more,
+          sent-add ws st c,
+          ended (after st ws) _ kept halt .0,
+          kept .counted .takes,
+          length-append takes (takenFrom st ws),
+        )
 
-  -- and messages are taken in the order in which they were filled
-  in-order : message ∷ filledFrom st ws ≡ takenFrom st ws ++ ownMessage (after st ws .envelope)
-  in-order =
-      append-cancel-left takes _ _
-      (sym (append-assoc takes (message ∷ []) (filledFrom st ws))
-      ∙ ap (λ (l : List ℕ). l ++ filledFrom st ws) (sym filled-last)
-      ∙ kept .counted .messages
-      ∙ append-assoc takes (takenFrom st ws) (ownMessage (after st ws .envelope)))
+    -- and messages are taken in the order in which they were filled
+    in-order : message ∷ filledFrom st ws ≡ takenFrom st ws ++ ownMessage (after st ws .envelope)
+    in-order =
+        append-cancel-left takes _ _
+        (sym (append-assoc takes (message ∷ []) (filledFrom st ws))
+        ∙ ap (λ (l : List ℕ). l ++ filledFrom st ws) (sym filled-last)
+        ∙ kept .counted .messages
+        ∙ append-assoc takes (takenFrom st ws) (ownMessage (after st ws .envelope)))
 
-  taken-first : Stopped (after st ws) → (later : List ℕ) × (takenFrom st ws ≡ message ∷ later)
-  taken-first halt = first-is message _ (takenFrom st ws) _ (some-taken halt) in-order
+    taken-first : Stopped (after st ws) → (later : List ℕ) × (takenFrom st ws ≡ message ∷ later)
+    taken-first halt = first-is message _ (takenFrom st ws) _ (some-taken halt) in-order
 
 -- from the fresh ring
 pub stopped-once-taken : StoppedOnceTaken
@@ -192,7 +197,7 @@ no-stop-without-take n home two few below vs on-ring put-ended ws then-on-ring n
     cons≢nil (sym (found .1) ∙ none)
 
 -- and so the test says no
-pub not-stopped-without-take : OncePutEnded (λ st ws. takenFrom st ws ≡ [] → stopped (after st ws) ≡ false)
+pub not-stopped-without-take : Thereafter PutEnded (λ st ws. takenFrom st ws ≡ [] → stopped (after st ws) ≡ false)
 not-stopped-without-take n home two few below vs on-ring put-ended ws then-on-ring none =
     let end = after (after (freshState n home) vs) ws in
     refuted (stopped end)
@@ -200,16 +205,50 @@ not-stopped-without-take n home two few below vs on-ring put-ended ws then-on-ri
 
 -- ---- no stop without a get
 
--- more puts have ended than gets were started, and ends are never fewer; when it is stopped as many gets have ended,
--- and no more end than start: so one has been started since
+-- who is in stages 9 and 10 is a receiver
+emptied-receives : (k : ℕ) → bit (emptied k) ≤ bit (receiving k)
+emptied-receives k = go (leb 9 k) refl
+  where
+    go : (b : Bool) → leb 9 k ≡ b → bit (leb 9 k && leb k 10) ≤ bit (leb 6 k && leb k 10)
+    go true high = rw (high, le-leb 6 k (omega (arith, leb-true 9 k high))) (omega arith)
+    go false low = rw low (omega arith)
+
+-- one more message was filled than taken, all who filled one have ended, and so have all gets that were started
+pub one-more-sent : OneMoreSent
+unfolding totalsFrom
+one-more-sent n home two few below vs on-ring alone =
+    let fresh = freshState n home in
+    let inv = reached n home two few below vs on-ring in
+    let more = one-more (after fresh vs) (countsFrom noCounts fresh vs) _ _ inv (alone .put-ended) in
+    let counted = inv .counted in
+    omega (
+      arith,
+      more,
+      counted .gets,
+      counted .takes,
+      alone .no-receiver .nobody,
+      parts-le (λ p. bit (emptied (p .stage))) (λ p. bit (receiving (p .stage))) (after fresh vs .processes)
+          (λ i _. emptied-receives (processAt (after fresh vs .processes) i .stage)),
+    )
+
+-- ends are never fewer; when it is stopped as many gets have ended as puts, and no more end than start: so one has been
+-- started since
 pub no-stop-without-get : NoStopWithoutGet
 unfolding totalsFrom
 no-stop-without-get n home two few below vs on-ring alone ws then-on-ring none halt =
     let fresh = freshState n home in
     let st = after fresh vs in
     let c = countsFrom noCounts fresh vs in
-    let kept =
-    events-kept ws st c (filledFrom fresh vs) (takenFrom fresh vs) (reached n home two few below vs on-ring)
-    (rw (length-after vs fresh, length-fresh n home) then-on-ring) in
-    let pairs = ended (after st ws) _ kept halt in
-    omega (arith, alone .more-sent, sent-add ws st c, gets-add ws st c, none, pairs .0, pairs .1)
+    let inv = reached n home two few below vs on-ring in
+    let later =
+    kept st c _ _ inv (alone .put-ended) ws (rw (length-after vs fresh, length-fresh n home) then-on-ring) in
+    let pairs = ended (after st ws) _ later halt in
+    omega (
+      arith,
+      one-more-sent n home two few below vs on-ring alone,
+      sent-add ws st c,
+      gets-add ws st c,
+      none,
+      pairs .0,
+      pairs .1,
+    )

@@ -1,4 +1,5 @@
--- Computed cases: the entries, each sentence of the events, and every rule at its edge.
+-- Cases, computed but for two entries: the entries, each sentence of the events, every rule at its edge, and each count
+-- in its place.
 pub mod Computed
 pub mod Case
 pub mod Entries

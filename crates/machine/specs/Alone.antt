@@ -1,11 +1,11 @@
 -- Entry 10: document 01, "Ten entries to try". A request for full that crossed the envelope may outlive the get that it
 -- served, and then a put may end alone; from there the ring isn't stopped before a get has taken the message.
-use Prim.Native.Nat.{ℕ, _≤_, _<_}
+use Prim.Native.Nat.{ℕ, _+_, _<_}
 use mathlib.Core.Path.{_≡_}
 use mathlib.Core.Bool.{true, false}
 use mathlib.Core.List.{List, [], _∷_, _++_}
 use lib.ListN.{length}
-use Rattle.machine.specs.Ring.{least, most, left}
+use Rattle.machine.specs.Ring.{left}
 use Rattle.machine.specs.Fields.{full, for}
 use Rattle.machine.specs.Image.{State}
 use Rattle.machine.specs.Stages.{filled, receiving}
@@ -13,7 +13,7 @@ use Rattle.machine.specs.Fresh.{freshState}
 use Rattle.machine.specs.Events.{Event, processAt}
 use Rattle.machine.specs.Stopped.{stopped, Stopped}
 use Rattle.machine.specs.Run.{after}
-use Rattle.machine.specs.Balance.{takenFrom, Totals, totalsFrom, inStages, onRing}
+use Rattle.machine.specs.Balance.{takenFrom, totalsFrom, inStages, onRing, AfterEvents}
 
 -- ---- states of a ring
 
@@ -35,12 +35,10 @@ pub record PutEnded (st : State) : Type 0 where
   pub is-full : st .envelope .full ≡ true
   pub nobody : inStages filled (st .processes) ≡ 0
 
--- a put has ended alone: its message is in the envelope, there is no receiver, more puts have ended than gets were even
--- started, and the ring isn't stopped
-pub record EndedAlone (st : State) (t : Totals) : Type 0 where
+-- a put has ended alone: its message is in the envelope, there is no receiver, and the ring isn't stopped
+pub record EndedAlone (st : State) : Type 0 where
   pub put-ended : PutEnded st
   pub no-receiver : NoReceiver st
-  pub more-sent : t .gets < t .sent
   pub moving : stopped st ≡ false
 
 -- ---- a put may end alone
@@ -52,36 +50,29 @@ pub record EndsAlone (n home : ℕ) (crosses outlives ends : List Event) : Type 
   pub on-ring : onRing n (crosses ++ (outlives ++ ends)) ≡ true
   pub crossing : Crossing (after (freshState n home) crosses)
   pub no-receiver : NoReceiver (after (freshState n home) (crosses ++ outlives))
-  pub alone :
-      EndedAlone (after (freshState n home) (crosses ++ (outlives ++ ends)))
-      (totalsFrom (freshState n home) (crosses ++ (outlives ++ ends)))
+  pub alone : EndedAlone (after (freshState n home) (crosses ++ (outlives ++ ends)))
+
+-- and then, in every ring and after every list of events, just one more put has ended than gets were even started
+abbrev pub OneMoreSent : Type 0
+OneMoreSent = AfterEvents (λ n st t. EndedAlone st → t .sent ≡ t .gets + 1)
 
 -- ---- not stopped until a get has taken the message
 
--- what holds of every ring that a list of events comes to, if Q holds of it and of what was counted so far, and of
--- every further list of events from there
-abbrev pub Thereafter : (State → Totals → Type 0) → (State → List Event → Type 0) → Type 0
-Thereafter Q P =
-    (n home : ℕ) → least ≤ n → n ≤ most → home < n → (vs : List Event) → onRing n vs ≡ true
-    → Q (after (freshState n home) vs) (totalsFrom (freshState n home) vs)
-    → (ws : List Event) → onRing n ws ≡ true
-    → P (after (freshState n home) vs) ws
-
--- full and with its put ended
-abbrev pub OncePutEnded : (State → List Event → Type 0) → Type 0
-OncePutEnded P = Thereafter (λ st t. PutEnded st) P
+-- for every ring, home and list of events that comes to a state of which Q holds, and every further list from there:
+-- what holds of that state and of the further list
+abbrev pub Thereafter : (State → Type 0) → (State → List Event → Type 0) → Type 0
+Thereafter Q P = AfterEvents (λ n st t. Q st → (ws : List Event) → onRing n ws ≡ true → P st ws)
 
 -- events that take nothing leave it not stopped
 abbrev pub NoStopWithoutTake : Type 0
-NoStopWithoutTake = OncePutEnded (λ st ws. takenFrom st ws ≡ [] → Stopped (after st ws) → ⊥)
+NoStopWithoutTake = Thereafter PutEnded (λ st ws. takenFrom st ws ≡ [] → Stopped (after st ws) → ⊥)
 
 -- and if it is stopped, the first message that was taken is the one that the envelope had
 abbrev pub StoppedOnceTaken : Type 0
 StoppedOnceTaken =
-    OncePutEnded
+    Thereafter PutEnded
     (λ st ws. Stopped (after st ws) → (later : List ℕ) × (takenFrom st ws ≡ st .envelope .message ∷ later))
 
--- once a put has ended alone no get that was started is left to take the message: events that start none leave it not
--- stopped
+-- once a put has ended alone, events that start no get leave it not stopped: nobody is left to take the message
 abbrev pub NoStopWithoutGet : Type 0
 NoStopWithoutGet = Thereafter EndedAlone (λ st ws. totalsFrom st ws .gets ≡ 0 → Stopped (after st ws) → ⊥)

@@ -1,4 +1,5 @@
--- Document 01 as definitions, a module for each of its sections, in its order.
+-- Document 01 as definitions: words that rules are written in (Bytes, Lists, Fields), then its sections, mostly in its
+-- order. docs/PROOFS.md, "What must be believed", says which module is which section.
 pub mod Bytes
 pub mod Lists
 pub mod Ring

@@ -1,6 +1,6 @@
 -- Which lengths pass: whole units, so many as may be and no other. The longest tape has 65,536 blocks and the longest
 -- list 63 events for each of them; one more is refused.
-use Prim.Native.Nat.{ℕ, _+_, _*_, _/_, _≤_, _<_}
+use Prim.Native.Nat.{ℕ, _*_, _/_, _≤_, _<_}
 use mathlib.Core.Path.{_≡_}
 use mathlib.Core.List.{List}
 use mathlib.Core.Logic.{_↔_}
@@ -10,6 +10,7 @@ use lib.ListN.{length}
 use Rattle.machine.specs.declared.Refusal.the-variants as refusal
 use Rattle.machine.specs.declared.Verdict.the-variants.{Fine, Refused}
 use Rattle.machine.specs.Refusals.{lengthVerdict, tapeVerdict, listVerdict}
+use Rattle.machine.proofs.Cases.Boundaries.{longer-tape, longer-list}
 use Rattle.tape_test.proofs.Blocks.{length-fine, fine-length}
 -- the longest ones are shown with the rules themselves
 pub use Rattle.machine.proofs.Cases.Boundaries.{longest-tape, longest-list}
@@ -32,11 +33,11 @@ which-fit unit least most whole s = (
 -- one block more
 pub tape-too-long : (s : List ℕ) → length s ≡ 512 * 65537 → (codes n : ℕ)
     → tapeVerdict codes n s ≡ Refused refusal.Length
-unfolding tapeVerdict lengthVerdict
-tape-too-long s long codes n = rw long
+unfolding tapeVerdict
+tape-too-long s long codes n = rw (longer-tape s long)
 
 -- one event more
-pub list-too-long : (s : List ℕ) → length s ≡ 8 * (63 * 65536 + 1) → (codes n : ℕ)
+pub list-too-long : (s : List ℕ) → length s ≡ 8 * 4128769 → (codes n : ℕ)
     → listVerdict codes n s ≡ Refused refusal.Length
-unfolding listVerdict lengthVerdict
-list-too-long s long codes n = rw long
+unfolding listVerdict
+list-too-long s long codes n = rw (longer-list s long)

@@ -1,5 +1,6 @@
 -- The invariant behind the third demand, clause by clause. Each clause is kept by every event on its own, given that
--- the state fits; they meet only in the standstill. Full and empty are mirror images: each is said over the status.
+-- the state fits; they meet only in the standstill. Full and empty are mirror images: what holds of both is said once,
+-- over the status.
 use Prim.Native.Nat.{ℕ, _+_, _≤_, _<_}
 use mathlib.Core.Path.{_≡_}
 use mathlib.Core.Bool.{Bool, true, false, not, _&&_, _||_}

@@ -1,5 +1,5 @@
--- The claim is not empty: lists of events that end stopped, one with all that can happen in it, and one that leaves a
--- sender waiting. The checker computes them.
+-- The claim is not empty: lists of events that end stopped, one with a fill, a take, a sent and a got, and one that
+-- leaves a sender waiting. The checker computes them.
 use Prim.Native.Nat.{ℕ}
 use mathlib.Core.Path.{_≡_, refl}
 use mathlib.Core.Bool.{true}

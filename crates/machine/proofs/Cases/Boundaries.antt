@@ -276,11 +276,11 @@ unfolding lengthVerdict
 longest-list s e = rw e
 
 -- one more doesn't, whatever the bytes
-longer-tape : (s : List ℕ) → length s ≡ 512 * 65537 → lengthVerdict 512 1 mostBlocks s ≡ Refused refusal.Length
+pub longer-tape : (s : List ℕ) → length s ≡ 512 * 65537 → lengthVerdict 512 1 mostBlocks s ≡ Refused refusal.Length
 unfolding lengthVerdict
 longer-tape s e = rw e
 
-longer-list : (s : List ℕ) → length s ≡ 8 * 4128769 → lengthVerdict 8 1 mostEvents s ≡ Refused refusal.Length
+pub longer-list : (s : List ℕ) → length s ≡ 8 * 4128769 → lengthVerdict 8 1 mostEvents s ≡ Refused refusal.Length
 unfolding lengthVerdict
 longer-list s e = rw e
 

@@ -1,5 +1,5 @@
--- Document 01's entries 1 to 9, each by itself and all as one theorem: they are true of the rules themselves, and the
--- checker computes them, but for entry 4, which holds of every fresh ring and is proved of all.
+-- Document 01's entries 1 to 9, each by itself and all as one theorem: they are true of the rules themselves. The
+-- checker computes them; but entry 4 holds of every fresh ring and entry 8 of every list, and they are proved of all.
 use Prim.Native.Nat.{ℕ, _+_, _*_, _≤_, _<_}
 use mathlib.Core.Path.{_≡_, refl, ap, _∙_}
 use mathlib.Core.List.{List, [], _∷_, _++_}
@@ -23,6 +23,7 @@ use Rattle.machine.proofs.Image.Fresh.{fresh-written, fresh-size, fresh
 use Rattle.machine.proofs.Soundness.Kept.{image-over}
 use Rattle.machine.proofs.Idle.{idle-keeps}
 use Rattle.machine.proofs.Steps.{step-answers, step-leaves}
+use Rattle.machine.proofs.Tapes.{length-tape}
 use Rattle.machine.proofs.Balance.Start.{each-fresh}
 use Rattle.machine.proofs.Cases.Computed.{rules}
 use Rattle.machine.proofs.Cases.Case.{done, refused, event, copies}
@@ -154,15 +155,22 @@ pub entry-7 : Entry7
 unfolding rules
 entry-7 = (refl, refl, refl, refl, refl, refl)
 
--- a block that is full, and one event more, which takes a second
+-- any 63 events make a block, and any 64 two; the writer says so of these
 abbrev pub Entry8 : Type 0
 Entry8 =
-    (writeAnswer 2 (copies 63 (event 1 7 0)) (replicate 1024 0) ≡ done (512 ∷ []))
+    ((list : List ℕ) → length list ≡ 8 * 63 → length (tapeOf list) ≡ 512)
+    × ((list : List ℕ) → length list ≡ 8 * 64 → length (tapeOf list) ≡ 2 * 512)
+    × (writeAnswer 2 (copies 63 (event 1 7 0)) (replicate 1024 0) ≡ done (512 ∷ []))
     × (writeAnswer 2 (copies 64 (event 1 7 0)) (replicate 1024 0) ≡ done (1024 ∷ []))
 
 pub entry-8 : Entry8
 unfolding rules
-entry-8 = (refl, refl)
+entry-8 = (
+  λ list long. length-tape list ∙ rw long,
+  λ list long. length-tape list ∙ rw long,
+  refl,
+  refl,
+)
 
 -- room for just one record, and a byte too little for it
 abbrev pub Entry9 : Type 0
