@@ -44,7 +44,8 @@ idle-only Got zero = absurd (omega arith)
 module _ (n : ℕ) (image : List ℕ) (fine : imageVerdict image ≡ Fine) (size : sizeIn image ≡ n) where
   all-idle : stopped (stateIn image) ≡ true → AllIdle n image
   all-idle halts i below code low high =
-      let idle = stopped-means (stateIn image) halts i (omega (arith, length-state image, size)) code low high in
+      let on-ring : i < length (stateIn image .processes) = omega (arith, length-state image, size) in
+      let idle = stopped-means (stateIn image) halts i on-ring code (omega arith) (omega arith) in
       step-answers image fine i code (omega (arith, size)) (omega arith)
       ∙ ap (λ (o : Outcome). answer Fine (outcomeValues o)) idle
 
@@ -55,7 +56,7 @@ module _ (n : ℕ) (image : List ℕ) (fine : imageVerdict image ≡ Fine) (size
       let on-ring : i < sizeIn image = omega (arith, length-state image) in
       let steps = step-answers image fine i code on-ring (omega arith) in
       idle-only _
-      (ap (λ (a : Answer). value a 0) (sym steps ∙ each i (omega (arith, size)) code low high)))
+      (ap (λ (a : Answer). value a 0) (sym steps ∙ each i (omega (arith, size)) code (omega arith) (omega arith))))
 
   pub tells : SaysExactly n image
   tells =
