@@ -231,8 +231,15 @@ one-more-sent n home two few below vs on-ring alone =
           (λ i _. emptied-receives (processAt (after fresh vs .processes) i .stage)),
     )
 
--- ends are never fewer; when it is stopped as many gets have ended as puts, and no more end than start: so one has been
--- started since
+-- one more put has ended than gets were started, and ends are never fewer; when it is stopped as many gets have ended
+-- as puts, and no more end than start: so one has been started since
+another-starts : {sent gets later-sent later-gets later-got : ℕ} → sent ≡ gets + 1 → sent ≤ later-sent
+    → later-sent ≡ later-got
+    → later-got ≤ later-gets
+    → later-gets ≡ gets
+    → ⊥
+another-starts more never-fewer pairs within none = omega arith
+
 pub no-stop-without-get : NoStopWithoutGet
 unfolding totalsFrom
 no-stop-without-get n home two few below vs on-ring alone ws then-on-ring none halt =
@@ -243,12 +250,6 @@ no-stop-without-get n home two few below vs on-ring alone ws then-on-ring none h
     let later =
     kept st c _ _ inv (alone .put-ended) ws (rw (length-after vs fresh, length-fresh n home) then-on-ring) in
     let pairs = ended (after st ws) _ later halt in
-    omega (
-      arith,
-      one-more-sent n home two few below vs on-ring alone,
-      sent-add ws st c,
-      gets-add ws st c,
-      none,
-      pairs .0,
-      pairs .1,
-    )
+    let none-since : countsFrom c st ws .gets ≡ c .gets = omega (arith, gets-add ws st c, none) in
+    another-starts (one-more-sent n home two few below vs on-ring alone) (omega (arith, sent-add ws st c)) (pairs .0)
+    (omega (arith, pairs .1)) none-since
