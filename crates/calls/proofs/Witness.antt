@@ -13,7 +13,6 @@ use Rattle.machine.specs.Bytes.{Bytes}
 use Rattle.machine.specs.Lists.{all}
 use Rattle.machine.specs.Tape.{tapeOf}
 use Rattle.machine.specs.Answers.{stepAnswer, runAnswer}
-use Rattle.machine.specs.Host.{returned, wordsOf, resultBytes, resultAfter, lentWith}
 use Rattle.machine.proofs.Laws.Lists.{all-at}
 use Rattle.machine.proofs.Laws.Bytes.{lt-or-ge}
 use Rattle.machine.proofs.Cases.Computed.{rules}
@@ -74,8 +73,7 @@ hostCalls =
 pub all-told :
     (hostShownAll ring hostCalls ≡ record { puts = 1; gets = 1; sent = 1; got = 1; filled = 7 ∷ []; taken = 7 ∷ [] })
     × TellsStopped (hostImageAll ring hostCalls)
-unfolding rules ring firstTen lastTen offRing hostCalls hostImageAll hostShownAll ledgerMessages returned wordsOf
-    resultBytes resultAfter lentWith
+unfolding rules ring firstTen lastTen offRing hostCalls hostImageAll hostShownAll ledgerMessages
 all-told = (refl, (result, refl, refl))
 
 -- ---- the demand speaks of this list

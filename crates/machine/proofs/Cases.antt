@@ -1,5 +1,5 @@
--- Cases, computed but for two entries: the entries, each sentence of the events, every rule at its edge, and each count
--- in its place.
+-- Cases, computed but for two entries: the entries, each sentence of the events, every rule at its edge, each count in
+-- its place, and what the suite's host is told.
 pub mod Computed
 pub mod Case
 pub mod Entries
@@ -7,3 +7,4 @@ pub mod Events
 pub mod Edges
 pub mod Boundaries
 pub mod Counts
+pub mod Host

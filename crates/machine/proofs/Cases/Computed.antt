@@ -26,6 +26,7 @@ use Rattle.machine.specs.Answers.{freshVerdict, freshAnswer, freshImage,
 use Rattle.machine.specs.Answers.{stoppedAnswer}
 use Rattle.machine.specs.Answers.{runEvents, runRecords, runVerdict, runAnswer, runImage, runLedger}
 use Rattle.machine.specs.Answers.{writeVerdict, writeAnswer, writeOutput, readVerdict, readAnswer, readOutput}
+use Rattle.machine.specs.Host.{returned, wordsOf, resultBytes, resultAfter, lentWith}
 use Rattle.machine.specs.Text.{text, digits, decimal, line}
 use Rattle.machine.specs.Report.{recordLine, recordLines, countsLine, lastLine, refusalLine, fewVerdict}
 use Rattle.machine.specs.Report.{reportVerdict, ranText, reportText, reportAnswer, reportOutput}
@@ -91,6 +92,10 @@ unfoldable pub ofCalls : Bool
 unfolding ofImageCalls ofRunCall ofTapeCalls
 ofCalls = true
 
+unfoldable pub ofHost : Bool
+unfolding returned wordsOf resultBytes resultAfter lentWith
+ofHost = true
+
 unfoldable pub ofText : Bool
 unfolding text digits decimal line recordLine recordLines countsLine lastLine refusalLine
 ofText = true
@@ -100,5 +105,5 @@ unfolding ofText fewVerdict reportVerdict ranText reportText reportAnswer report
 ofReport = true
 
 unfoldable pub rules : Bool
-unfolding ofBytes ofLists ofImage ofSound ofEvents ofRun ofBalance ofTape ofBlocks ofCalls ofReport
+unfolding ofBytes ofLists ofImage ofSound ofEvents ofRun ofBalance ofTape ofBlocks ofCalls ofHost ofReport
 rules = true
