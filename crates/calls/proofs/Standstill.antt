@@ -76,7 +76,10 @@ module _ (n : ℕ) (image : List ℕ) (fine : imageVerdict image ≡ Fine) (size
       record {
         not-refused = read .0;
         answered = by-flag (stopped (stateIn image)) (read .1);
-        one-means = λ told. all-idle (bit-on (stopped (stateIn image)) (omega (arith, read .1, told)));
+        one-means =
+            λ told.
+            let one : bit (stopped (stateIn image)) ≡ 1 = sym (read .1) ∙ told in
+            all-idle (bit-on (stopped (stateIn image)) (omega (arith, one)));
         means-one = λ each. read .1 ∙ ap bit (idle-all each);
       }
     where
