@@ -39,7 +39,7 @@ idle-only (Take m) zero = absurd (omega arith)
 idle-only Sent zero = absurd (omega arith)
 idle-only Got zero = absurd (omega arith)
 
--- ---- an accepted image of n processes
+-- ---- an accepted image of n processes; the code's bounds are worked out, so that other bounds fail by a code
 
 module _ (n : ℕ) (image : List ℕ) (fine : imageVerdict image ≡ Fine) (size : sizeIn image ≡ n) where
   all-idle : stopped (stateIn image) ≡ true → AllIdle n image

@@ -92,8 +92,8 @@ two-alone = (
         record {
           put-ended = record { is-full = refl; nobody = refl };
           no-receiver = record { marker = refl; nobody = refl };
-          moving = refl;
         };
+    moving = refl;
   },
   refl,
   refl,
@@ -113,14 +113,14 @@ three-alone = (
         record {
           put-ended = record { is-full = refl; nobody = refl };
           no-receiver = record { marker = refl; nobody = refl };
-          moving = refl;
         };
+    moving = refl;
   },
   refl,
   refl,
 )
 
--- ---- not stopped until a get has taken the message
+-- ---- no stop before the message is taken
 
 -- some messages that come before others, where the first of all is m, begin with m
 first-is : (m : ℕ) (all some others : List ℕ) → 1 ≤ length some → m ∷ all ≡ some ++ others
@@ -232,7 +232,7 @@ one-more-sent n home two few below vs on-ring alone =
     )
 
 -- one more put has ended than gets were started, and ends are never fewer; when it is stopped as many gets have ended
--- as puts, and no more end than start: so one has been started since
+-- as puts, and no more end than start: so one has been started since. Over numbers alone, so that it needs just that
 another-starts : {sent gets later-sent later-gets later-got : ℕ} → sent ≡ gets + 1 → sent ≤ later-sent
     → later-sent ≡ later-got
     → later-got ≤ later-gets

@@ -35,28 +35,28 @@ pub record PutEnded (st : State) : Type 0 where
   pub is-full : st .envelope .full ≡ true
   pub nobody : inStages filled (st .processes) ≡ 0
 
--- a put has ended alone: its message is in the envelope, there is no receiver, and the ring isn't stopped
+-- a put has ended alone: its message is in the envelope, and there is no receiver
 pub record EndedAlone (st : State) : Type 0 where
   pub put-ended : PutEnded st
   pub no-receiver : NoReceiver st
-  pub moving : stopped st ≡ false
 
 -- ---- a put may end alone
 
 -- how a ring of n comes to that, by events in three parts: a request for full crosses the envelope; later the full
--- marker is set with no receiver; and then a put ends alone. That the one comes of the other is seen in the lists, and
--- not said here
+-- marker is set with no receiver; and then a put ends alone, and the ring isn't stopped. That the one comes of the
+-- other is seen in the lists, and not said here
 pub record EndsAlone (n home : ℕ) (crosses outlives ends : List Event) : Type 0 where
   pub on-ring : onRing n (crosses ++ (outlives ++ ends)) ≡ true
   pub crossing : Crossing (after (freshState n home) crosses)
   pub no-receiver : NoReceiver (after (freshState n home) (crosses ++ outlives))
   pub alone : EndedAlone (after (freshState n home) (crosses ++ (outlives ++ ends)))
+  pub moving : stopped (after (freshState n home) (crosses ++ (outlives ++ ends))) ≡ false
 
 -- and then, in every ring and after every list of events, just one more put has ended than gets were even started
 abbrev pub OneMoreSent : Type 0
 OneMoreSent = AfterEvents (λ n st t. EndedAlone st → t .sent ≡ t .gets + 1)
 
--- ---- not stopped until a get has taken the message
+-- ---- no stop before the message is taken
 
 -- for every ring, home and list of events that comes to a state of which Q holds, and every further list from there:
 -- what holds of that state and of the further list

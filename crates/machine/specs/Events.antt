@@ -68,7 +68,7 @@ markFor s r =
     (changed r (withMarked (withCount (r .envelope .marked) s (suc (count (r .envelope .marked) s))) (r .envelope))
     (withMark (with (r .process .mark) s true) (r .process)))
 
--- Mark: for the status opposite to the present one.
+-- Mark: for the status that the envelope hasn't.
 unfoldable pub mark : Reaction → Reaction
 mark r = markFor (not (r .envelope .full)) r
 

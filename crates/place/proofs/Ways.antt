@@ -1,5 +1,5 @@
--- Each way through an event on an image: one that isn't possible is idle and leaves the image as it is, since an idle
--- event keeps the state (Idle) and a sound image is what its state writes (Image.Rewrite); any other is the rule's
+-- Each way through an event on an image: where it isn't possible it is idle, and the image stays as it is, since an
+-- idle event keeps the state (Idle) and a sound image is what its state writes (Image.Rewrite); any other is the rule's
 -- reaction at its process, placed. What lower functions answered is a variable here, with the value that it is known to
 -- be.
 use Prim.Native.Nat.{ℕ, _%_, _≤_, _<_}

@@ -152,7 +152,7 @@ module _ (r : Reaction) (fits : Fits r) (counted : Counted r) where
       (enclosed (eqb (flagsOf h) 1) (pairOf (requestsOf h) 0) (more s (spareOf h) (noteOf h) i)
       (r .header .message))))
 
-  -- for the status opposite to the present one
+  -- for the status that the envelope hasn't
   pub mark-made : {full : Bool} {pair marked : ℕ} → full ≡ fullOf h → pair ≡ pairFor (not full)
       → marked ≡ marksOf w
       → {own : Record} {header : Header} → own .word ≡ bitOr w (bitAnd pair (3 - marked) * 1048576)

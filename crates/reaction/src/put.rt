@@ -36,7 +36,7 @@ fn pass(wish: u64, r: Reaction) -> Reaction
     }
 }
 
-// Mark for the status opposite to the present one, unless that is marked.
+// Mark for the status that the envelope hasn't, unless that is marked.
 fn mark(r: Reaction) -> Reaction
     requires { ⌜ Begun r × Counted r ⌝ }
     ensures { λ t. ⌜ Makes rule.mark r t × Keeps r t ⌝ }

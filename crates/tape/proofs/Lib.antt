@@ -13,4 +13,4 @@ pub mod Moved
 pub mod Word
 pub mod Damage
 pub mod Trips
-pub mod Longest
+pub mod Lengths

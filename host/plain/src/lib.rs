@@ -99,7 +99,7 @@ fn stopped<const FAULT: u8>(image: &[u8], result: usize) -> Result<[u64; 8], Ref
     Ok([yes, 0, 0, 0, 0, 0, 0, 0])
 }
 
-/// Fresh ring: all zero but N and have at the home process. The result gets zeros.
+/// Fresh ring: zeros, then N and the home's have flag. The result gets zeros.
 pub fn ring_fresh<const FAULT: u8>(n: u64, home: u64, image: &mut [u8], result: &mut [u8]) -> u64 {
     let done = fresh(n, home, image, result.len());
     answer::<FAULT>(result, done)

@@ -46,7 +46,7 @@ fn played<const FAULT: u8>(input: &[u8], ledger: &mut [u8]) -> Result<End, Refus
     Ok(End { counts, stopped: yes == 1 })
 }
 
-/// N, home and the tape; a missing N or home reads as 0.
+/// N, home and the tape; where N or home is missing it is 0.
 fn parts(input: &[u8]) -> (u64, u64, &[u8]) {
     match input {
         [] => (0, 0, &[]),

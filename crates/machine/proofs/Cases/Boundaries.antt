@@ -10,7 +10,8 @@ use Rattle.machine.specs.declared.Verdict.the-variants.{Fine, Refused}
 use Rattle.machine.specs.declared.Refusal.the-variants as refusal
 use Rattle.machine.specs.Tape.{blockBytes, padded}
 use Rattle.machine.specs.Ring.{sizeFits}
-use Rattle.machine.specs.Refusals.{lengthVerdict, mostBlocks, mostEvents}
+use Rattle.machine.specs.Image.{sizeIn}
+use Rattle.machine.specs.Refusals.{codes, lengthVerdict, mostBlocks, mostEvents}
 use Rattle.machine.specs.Refusals.{sizeVerdict, imageVerdict, listVerdict, tapeVerdict}
 use Rattle.machine.specs.Answers.{Answer, freshAnswer, freshImage, stepAnswer, stepImage}
 use Rattle.machine.specs.Answers.{runAnswer, runImage, runLedger, stoppedAnswer, writeAnswer, writeOutput}
@@ -275,26 +276,28 @@ pub longest-list : (s : List ℕ) → length s ≡ 8 * 4128768 → lengthVerdict
 unfolding lengthVerdict
 longest-list s e = rw e
 
--- one more doesn't, whatever the bytes
-pub longer-tape : (s : List ℕ) → length s ≡ 512 * 65537 → lengthVerdict 512 1 mostBlocks s ≡ Refused refusal.Length
-unfolding lengthVerdict
-longer-tape s e = rw e
+-- one more is refused, whatever the bytes, the number of codes and N
+pub tape-too-long : (codes n : ℕ) (s : List ℕ) → length s ≡ 512 * 65537
+    → tapeVerdict codes n s ≡ Refused refusal.Length
+unfolding tapeVerdict lengthVerdict
+tape-too-long codes n s e = rw e
 
-pub longer-list : (s : List ℕ) → length s ≡ 8 * 4128769 → lengthVerdict 8 1 mostEvents s ≡ Refused refusal.Length
-unfolding lengthVerdict
-longer-list s e = rw e
+pub list-too-long : (codes n : ℕ) (s : List ℕ) → length s ≡ 8 * 4128769
+    → listVerdict codes n s ≡ Refused refusal.Length
+unfolding listVerdict lengthVerdict
+list-too-long codes n s e = rw e
 
 -- so the reader, the writer and the run refuse it 6, at 0
 module _ (n : ℕ) (s output : List ℕ) (size : sizeFits n ≡ true) where
   pub read-too-long : length s ≡ 512 * 65537 → readAnswer n s output ≡ refused 6 0
-  unfolding readAnswer readVerdict sizeVerdict tapeVerdict
-  read-too-long e = rw (size, longer-tape s e)
+  unfolding readAnswer readVerdict sizeVerdict
+  read-too-long e = rw (size, tape-too-long codes n s e)
 
   pub write-too-long : length s ≡ 8 * 4128769 → writeAnswer n s output ≡ refused 6 0
-  unfolding writeAnswer writeVerdict sizeVerdict listVerdict
-  write-too-long e = rw (size, longer-list s e)
+  unfolding writeAnswer writeVerdict sizeVerdict
+  write-too-long e = rw (size, list-too-long codes n s e)
 
 pub run-too-long : (image s ledger : List ℕ) → imageVerdict image ≡ Fine → length s ≡ 512 * 65537
     → runAnswer image s ledger ≡ refused 6 0
-unfolding runAnswer runVerdict tapeVerdict
-run-too-long image s ledger fine e = rw (fine, longer-tape s e)
+unfolding runAnswer runVerdict
+run-too-long image s ledger fine e = rw (fine, tape-too-long codes (sizeIn image) s e)

@@ -130,7 +130,7 @@ takings =
 
 -- ---- code 7
 
--- only with news, which it clears; stages 3, 4, 8 and 9 do no more, whatever the right has asked
+-- without news nothing; they are used up, and in stages 3, 4, 8 and 9 that is all, whatever the right has asked
 abbrev calm : List Move
 calm =
     stays (hollow (record8 0 1 3 0) nobody) 7

@@ -1,5 +1,5 @@
 -- What the suite's host is told: the number returned and the whole result slice afterwards, and a lent buffer, with
--- slices of 79, 80 and 81 bytes, done and refused. The checker computes it.
+-- slices of 0, 79, 80 and 81 bytes, done and refused. The checker computes it.
 use Prim.Native.Nat.{ℕ}
 use mathlib.Core.Path.{_≡_, refl}
 use mathlib.Core.Bool.{true}
@@ -56,7 +56,7 @@ refusedCases =
 
 -- ---- without
 
--- a byte too short: untouched, and 10 if nothing else refuses the call, whatever room its ledger has
+-- too short by a byte, or empty: untouched, and 10 if nothing else refuses the call, its ledger's room apart
 abbrev shortCases : List Case
 shortCases =
     case (told (stepAnswer mayFill (event 1 2 0)) 79) (reads 10 (slice 79))

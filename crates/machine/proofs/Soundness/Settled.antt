@@ -168,7 +168,7 @@ module _ (e : Envelope) (p : Process) (fits : Fits e p) where
   had-at k here needed =
       needs-had (e .full) (p .have) (p .stage) (fits .has) (rw here needed)
 
-  -- a process that waits for the status opposite to the present one marks for it
+  -- a process that waits for the status that the envelope hasn't marks for it
   pub mark-waiting : (s : Status) → p .stage ≡ waitsFor s → not (e .full) ≡ s → Owed e p (mark (begun e p))
   unfolding mark
   mark-waiting s here other =
