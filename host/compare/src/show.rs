@@ -1,5 +1,7 @@
 //! How bytes and lists of events are shown.
 
+use vengloaz::Event;
+
 /// Bytes as hexadecimal digits, eight bytes a group, with long stretches of one group counted.
 pub fn hex(bytes: &[u8]) -> String {
     let group = |bytes: &[u8]| bytes.iter().map(|b| format!("{b:02x}")).collect::<String>();
@@ -10,17 +12,11 @@ pub fn hex(bytes: &[u8]) -> String {
     counted(&groups)
 }
 
-/// An event's bytes as `process.code(message)`.
+/// An event's bytes as its text, or as they are where that would leave some of them out.
 pub fn dotted(event: &[u8]) -> String {
-    match *event {
-        [process, code, 0, 0, m0, m1, m2, m3] => {
-            let message = u32::from_le_bytes([m0, m1, m2, m3]);
-            match (code, message) {
-                (0, _) | (_, 1..) => format!("{process}.{code}({message})"),
-                _ => format!("{process}.{code}"),
-            }
-        }
-        _ => format!("[{}]", hex(event)),
+    match event.try_into().ok().and_then(Event::from_bytes) {
+        Some(event) => event.to_string(),
+        None => format!("[{}]", hex(event)),
     }
 }
 

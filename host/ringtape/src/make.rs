@@ -1,6 +1,6 @@
 //! From a readable text to an input of ringrun.
 
-use vengloaz::Event;
+use vengloaz::{Event, ParseEventError};
 
 /// The most events that ringrun takes: 64 blocks of 63.
 const MOST_EVENTS: usize = 64 * 63;
@@ -69,30 +69,14 @@ fn sizes(words: &[&str]) -> Result<[u8; 2], String> {
 
 /// One event of a ring of N, from its word.
 fn event(word: &str, n: u8) -> Result<Event, String> {
-    let (process, code, message) = parts(word).ok_or(format!("{word} is no event like 1.3 or 1.0(7)"))?;
-    if process >= n.into() {
+    let event: Event = word.parse().map_err(|error: ParseEventError| error.to_string())?;
+    if event.process >= n {
         return Err(format!("the process of {word} is not below N = {n}"));
     }
-    if code > 7 {
+    if event.code > 7 {
         return Err(format!("the code of {word} is above 7"));
     }
-    let message = match (code, message) {
-        (0, None) => return Err(format!("{word} has no message: code 0 is written like 1.0(7)")),
-        (1.., Some(_)) => return Err(format!("{word} has a message, which only code 0 has")),
-        (_, message) => message.unwrap_or(0),
-    };
-    let message = u32::try_from(message).map_err(|_| format!("the message of {word} is above {}", u32::MAX))?;
-    Ok(Event { process: process as u8, code: code as u8, message })
-}
-
-/// Process, code and the message in parentheses, if there is one.
-fn parts(word: &str) -> Option<(u64, u64, Option<u64>)> {
-    let (process, rest) = word.split_once('.')?;
-    let (code, message) = match rest.split_once('(') {
-        Some((code, message)) => (code, Some(number(message.strip_suffix(')')?)?)),
-        None => (rest, None),
-    };
-    Some((number(process)?, number(code)?, message))
+    Ok(event)
 }
 
 /// A decimal number; one beyond 64 bits counts as the greatest.

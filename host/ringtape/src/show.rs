@@ -33,16 +33,7 @@ fn accepted(input: &[u8]) -> String {
 fn refusal(input: &[u8]) -> Option<String> {
     let report = String::from_utf8(plain::report(input)).ok()?;
     let (number, place) = report.strip_prefix("refused ")?.trim_end().split_once(" at ")?;
-    let place = place.parse().ok()?;
-    let refusal = match number {
-        "1" => Refusal::RingSize,
-        "2" => Refusal::Home,
-        "5" => Refusal::Event { place },
-        "6" => Refusal::Length,
-        "7" => Refusal::BlockCheck { block: place },
-        "8" => Refusal::BlockNumber { block: place },
-        _ => Refusal::UnusedSlot { block: place },
-    };
+    let refusal = Refusal::from_number(number.parse().ok()?, place.parse().ok()?)?;
     Some(refusal.to_string())
 }
 
@@ -101,10 +92,9 @@ fn used(block: &[u8]) -> impl Iterator<Item = [u8; 8]> + '_ {
 
 /// A slot as an event, or as its bytes where that would leave some of them out.
 fn word(slot: [u8; 8]) -> String {
-    let [process, code, b2, b3, m0, m1, m2, m3] = slot;
-    match [b2, b3] {
-        [0, 0] => Event { process, code, message: u32::from_le_bytes([m0, m1, m2, m3]) }.to_string(),
-        _ => format!("[{}]", hex(&slot)),
+    match Event::from_bytes(slot) {
+        Some(event) => event.to_string(),
+        None => format!("[{}]", hex(&slot)),
     }
 }
 

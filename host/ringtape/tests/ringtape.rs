@@ -84,7 +84,7 @@ fn what_is_not_understood_is_named_with_its_line() {
     {
         assert_eq!(complaint(format!("2 0\n1.3\n0.7 {word} 0.7").as_bytes()), not(word));
     }
-    let wrong: [(&[u8], &str); 21] = [
+    let wrong: [(&[u8], &str); 22] = [
         (b"", "line 1: there is no line `N HOME`"),
         (b"# 2 0\n\n", "line 2: there is no line `N HOME`"),
         (b"2 0", "line 1: there is no event"),
@@ -100,8 +100,9 @@ fn what_is_not_understood_is_named_with_its_line() {
         (b"4 4\n0.3", "line 1: HOME is not below N = 4: 4"),
         (b"4 256\n0.3", "line 1: HOME is not below N = 4: 256"),
         (b"4 3\n0.3\n4.3", "line 3: the process of 4.3 is not below N = 4"),
-        (b"4 3\n0.3\n257.3", "line 3: the process of 257.3 is not below N = 4"),
+        (b"4 3\n0.3\n257.3", "line 3: the process of 257.3 is above 255"),
         (b"4 3\n0.3 1.8", "line 2: the code of 1.8 is above 7"),
+        (b"4 3\n0.3 1.256", "line 2: the code of 1.256 is above 255"),
         (b"4 3\n0.3 1.0", "line 2: 1.0 has no message: code 0 is written like 1.0(7)"),
         (b"4 3\n0.3(0)", "line 2: 0.3(0) has a message, which only code 0 has"),
         (b"4 3\n0.0(4294967296)", "line 2: the message of 0.0(4294967296) is above 4294967295"),
@@ -142,19 +143,20 @@ fn samples_are_shown_and_made_again() {
 /// What can still be read of a refused input.
 #[test]
 fn a_refused_input_is_shown_as_far_as_it_can_be_read() {
-    assert_eq!(shown(&[]), "# refused 1 at 0: N outside 2 to 64\n# no N: it reads as 0\n# no home: it reads as 0\n");
+    assert_eq!(shown(&[]), "# refused 1 at 0: N is not 2 to 64\n# no N: it reads as 0\n# no home: it reads as 0\n");
     let mut input = made("3 2\n1.0(7) 2.3 0.1\n");
     input[2 + 8 + 8 + 2] = 5;
     input[2 + 8 + 16 + 4] = 9;
     input[2 + 8 + 62 * 8 + 7] = 255;
-    let damaged = "# refused 7 at 0: block check differs\n# N 3\n# home 2\n\
+    let damaged = "# refused 7 at 0: block 0 came damaged: its check isn't that of its bytes\n# N 3\n# home 2\n\
                    # block 0: number 0, count 3, check a = 1037, b = 59580 where a = 796, b = 62738 is right\n\
                    # 1.0(7) [02 03 05 00 00 00 00 00] 0.1(9)\n\
                    # unused slot 62: 00 00 00 00 00 00 00 ff\n";
     assert_eq!(shown(&input), damaged);
     guide::seal(&mut input[2..]);
     input.extend([1, 0, 63, 0, 1, 2, 3]);
-    let ragged = "# refused 6 at 0: tape empty, ragged, or too long\n# N 3\n# home 2\n\
+    let ragged = "# refused 6 at 0: the length is wrong: a tape has 1 to 65536 whole blocks of 512 bytes, \
+                  a list 1 to 4128768 events, and ringrun takes up to 64 blocks\n# N 3\n# home 2\n\
                   # block 0: number 0, count 3, check right\n\
                   # 1.0(7) [02 03 05 00 00 00 00 00] 0.1(9)\n\
                   # unused slot 62: 00 00 00 00 00 00 00 ff\n\

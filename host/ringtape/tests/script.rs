@@ -1,4 +1,5 @@
-//! The script `samples/check`: it passes a program that prints every text, and finds one that doesn't.
+//! The script `samples/check`: it passes a program that prints every text, and finds one that doesn't. And what `make
+//! run` says of an input that it can't run.
 
 use samples::{all, folder};
 use std::collections::BTreeSet;
@@ -85,4 +86,16 @@ fn no_program_or_no_samples_fails() {
     }
     let output = check(&copied("none", &[]), &["true"]);
     assert_eq!((output.status.code(), &output.stdout[..]), (Some(1), &b"0 samples matched\n"[..]));
+}
+
+#[test]
+fn make_run_takes_a_file_that_is_there() {
+    let wrong = [("samples", "make run: samples is a directory\n"), ("none.in", "make run: cannot read none.in\n")];
+    for (input, complaint) in wrong {
+        let root = folder().join("..");
+        let command = Command::new("make").arg("-C").arg(root).args(["run", &format!("IN={input}")]).output();
+        let Output { status, stdout: _, stderr } = command.expect("make is there");
+        let said = String::from_utf8(stderr).unwrap();
+        assert!(!status.success() && said.starts_with(complaint), "{said}");
+    }
 }

@@ -1,6 +1,6 @@
 //! What a call answers when it isn't refused: a step's outcome, a run's counts.
 
-use crate::{word, RESULT};
+use std::fmt;
 
 /// What an event did.
 #[derive(Clone, Copy, Debug, PartialEq, Eq, Hash)]
@@ -20,17 +20,48 @@ pub enum Outcome {
 }
 
 impl Outcome {
-    /// The outcome in the result of a step that wasn't refused.
-    pub(crate) fn from_result(result: &[u8; RESULT]) -> Self {
-        let message = word(result, 1) as u32;
-        match word(result, 0) {
-            0 => Outcome::Idle,
-            1 => Outcome::Moved,
-            2 => Outcome::Fill(message),
-            3 => Outcome::Take(message),
-            4 => Outcome::Sent,
-            5 => Outcome::Got,
-            other => unreachable!("the step call's contract has no outcome {other}"),
+    /// The outcome's number, 0 to 5; of fill, take, sent and got it is the code of a ledger's record.
+    pub const fn number(self) -> u8 {
+        match self {
+            Outcome::Idle => 0,
+            Outcome::Moved => 1,
+            Outcome::Fill(_) => 2,
+            Outcome::Take(_) => 3,
+            Outcome::Sent => 4,
+            Outcome::Got => 5,
+        }
+    }
+
+    /// The message of a fill or a take, else 0.
+    pub const fn message(self) -> u32 {
+        match self {
+            Outcome::Fill(message) | Outcome::Take(message) => message,
+            _ => 0,
+        }
+    }
+
+    /// The outcome with this number and message: `None` above 5, and where a message has no place.
+    pub(crate) const fn from_number(number: u64, message: u32) -> Option<Self> {
+        match (number, message) {
+            (0, 0) => Some(Outcome::Idle),
+            (1, 0) => Some(Outcome::Moved),
+            (2, message) => Some(Outcome::Fill(message)),
+            (3, message) => Some(Outcome::Take(message)),
+            (4, 0) => Some(Outcome::Sent),
+            (5, 0) => Some(Outcome::Got),
+            _ => None,
+        }
+    }
+
+    /// The outcome's word, as ringrun prints it in a record's line.
+    pub(crate) const fn word(self) -> &'static str {
+        match self {
+            Outcome::Idle => "idle",
+            Outcome::Moved => "moved",
+            Outcome::Fill(_) => "fill",
+            Outcome::Take(_) => "take",
+            Outcome::Sent => "sent",
+            Outcome::Got => "got",
         }
     }
 }
@@ -57,17 +88,21 @@ pub struct Counts {
 }
 
 impl Counts {
-    /// The counts in the result of a run that wasn't refused.
-    pub(crate) fn from_result(result: &[u8; RESULT]) -> Self {
-        Counts {
-            puts: word(result, 0),
-            gets: word(result, 1),
-            fills: word(result, 2),
-            takes: word(result, 3),
-            sent: word(result, 4),
-            got: word(result, 5),
-            idle: word(result, 6),
-            records: word(result, 7),
-        }
+    /// The bytes that the run wrote at the start of its ledger: 12 for each record.
+    pub const fn ledger_bytes(&self) -> usize {
+        12 * self.records as usize
+    }
+}
+
+/// As ringrun prints them: each behind its name, and not the records.
+///
+/// ```
+/// let counts = vengloaz::Counts { puts: 1, fills: 1, records: 1, ..Default::default() };
+/// assert_eq!(counts.to_string(), "puts 1 gets 0 fills 1 takes 0 sent 0 got 0 idle 0");
+/// ```
+impl fmt::Display for Counts {
+    fn fmt(&self, out: &mut fmt::Formatter<'_>) -> fmt::Result {
+        let Counts { puts, gets, fills, takes, sent, got, idle, records: _ } = self;
+        write!(out, "puts {puts} gets {gets} fills {fills} takes {takes} sent {sent} got {got} idle {idle}")
     }
 }

@@ -1,6 +1,8 @@
-//! An event and its 8 bytes.
+//! An event, its 8 bytes and its text.
 
+use std::error::Error;
 use std::fmt;
+use std::str::FromStr;
 
 /// An event: what one thread of one process does next.
 ///
@@ -17,14 +19,20 @@ use std::fmt;
 /// Any values may be given: the calls refuse a process not below N, a code above 7, and a message
 /// other than 0 with a code other than 0.
 ///
+/// Its text is `process.code`, with the message in parentheses where the code is 0:
+///
 /// ```
 /// use vengloaz::Event;
 ///
-/// let event = Event::put(1, 7);
-/// assert_eq!(event, Event { process: 1, code: 0, message: 7 });
+/// let event: Event = "1.0(7)".parse()?;
+/// assert_eq!(event, Event::put(1, 7));
 /// assert_eq!(event.to_bytes(), [1, 0, 0, 0, 7, 0, 0, 0]);
+/// assert_eq!(Event::from_bytes([1, 0, 0, 0, 7, 0, 0, 0]), Some(event));
 /// assert_eq!(event.to_string(), "1.0(7)");
-/// assert_eq!(Event::new(1, 3).to_string(), "1.3");
+///
+/// let list: Result<Vec<Event>, _> = "1.0(7) 1.3 1.7".split(' ').map(str::parse).collect();
+/// assert_eq!(list?, [event, Event::new(1, 3), Event::new(1, 7)]);
+/// # Ok::<(), vengloaz::ParseEventError>(())
 /// ```
 #[derive(Clone, Copy, Debug, PartialEq, Eq, Hash)]
 pub struct Event {
@@ -57,6 +65,14 @@ impl Event {
         let [m0, m1, m2, m3] = self.message.to_le_bytes();
         [self.process, self.code, 0, 0, m0, m1, m2, m3]
     }
+
+    /// The event that these 8 bytes are; `None` if one of the two bytes in their middle isn't zero.
+    pub const fn from_bytes(bytes: [u8; 8]) -> Option<Self> {
+        let [process, code, 0, 0, m0, m1, m2, m3] = bytes else {
+            return None;
+        };
+        Some(Event { process, code, message: u32::from_le_bytes([m0, m1, m2, m3]) })
+    }
 }
 
 /// `process.code`, with the message in parentheses where the code is 0 or the message isn't.
@@ -68,4 +84,84 @@ impl fmt::Display for Event {
         }
         Ok(())
     }
+}
+
+/// `process.code`, in decimal, and the message in parentheses with code 0 and with no other. Whether the process is
+/// below N and the code known is left to the calls.
+impl FromStr for Event {
+    type Err = ParseEventError;
+
+    fn from_str(word: &str) -> Result<Self, ParseEventError> {
+        read(word).map_err(|fault| ParseEventError { word: word.to_string(), fault })
+    }
+}
+
+/// A text that isn't an event's. It says what is wrong, and with which text.
+///
+/// ```
+/// use vengloaz::Event;
+///
+/// let error = "1.0".parse::<Event>().unwrap_err();
+/// assert_eq!(error.to_string(), "1.0 has no message: code 0 is written like 1.0(7)");
+/// ```
+#[derive(Clone, Debug, PartialEq, Eq)]
+pub struct ParseEventError {
+    word: String,
+    fault: Fault,
+}
+
+impl Error for ParseEventError {}
+
+#[derive(Clone, Copy, Debug, PartialEq, Eq)]
+enum Fault {
+    Form,
+    Process,
+    Code,
+    Message,
+    NoMessage,
+    StrayMessage,
+}
+
+impl fmt::Display for ParseEventError {
+    fn fmt(&self, out: &mut fmt::Formatter<'_>) -> fmt::Result {
+        let word = &self.word;
+        match self.fault {
+            Fault::Form => write!(out, "{word} is no event like 1.3 or 1.0(7)"),
+            Fault::Process => write!(out, "the process of {word} is above {}", u8::MAX),
+            Fault::Code => write!(out, "the code of {word} is above {}", u8::MAX),
+            Fault::Message => write!(out, "the message of {word} is above {}", u32::MAX),
+            Fault::NoMessage => write!(out, "{word} has no message: code 0 is written like 1.0(7)"),
+            Fault::StrayMessage => write!(out, "{word} has a message, which only code 0 has"),
+        }
+    }
+}
+
+/// The event of a word.
+fn read(word: &str) -> Result<Event, Fault> {
+    let (process, code, message) = parts(word).ok_or(Fault::Form)?;
+    let process = number(process, Fault::Process)?;
+    let code = number(code, Fault::Code)?;
+    let message = match (code, message) {
+        (0, None) => return Err(Fault::NoMessage),
+        (0, Some(message)) => number(message, Fault::Message)?,
+        (_, None) => 0,
+        (_, Some(_)) => return Err(Fault::StrayMessage),
+    };
+    Ok(Event { process, code, message })
+}
+
+/// The digits of process, code and, if there are parentheses, message.
+fn parts(word: &str) -> Option<(&str, &str, Option<&str>)> {
+    let (process, rest) = word.split_once('.')?;
+    let (code, message) = match rest.split_once('(') {
+        Some((code, message)) => (code, Some(message.strip_suffix(')')?)),
+        None => (rest, None),
+    };
+    let decimal = |digits: &str| !digits.is_empty() && digits.bytes().all(|byte| byte.is_ascii_digit());
+    (decimal(process) && decimal(code) && message.is_none_or(decimal)).then_some((process, code, message))
+}
+
+/// A number of digits, which may be too great for its field.
+fn number<T: FromStr>(digits: &str, too_great: Fault) -> Result<T, Fault> {
+    digits.parse().map_err(|_| too_great)
 }

@@ -4,7 +4,7 @@
 //! 64-bit little-endian words at its start: outcome and message of a step, the eight counts of a run, 1 or 0 for a ring
 //! that is stopped or isn't, the bytes that the writer or the reader filled, or the place of a refusal, and 0 in the
 //! words behind. In a shorter one nothing is written, and a call that is not refused otherwise is then refused with 10.
-//! [`crate::step`], [`crate::run`] and [`crate::stopped`] say the same with types.
+//! The calls of the crate itself say the same with types; `include/vengloaz.h` declares the functions for C.
 //!
 //! This is the one module of the package with `unsafe`. It is sound because a slice passes as its own pointer and
 //! length, because the borrows keep the slices of a call apart and alive until it returns, and because the functions,
@@ -71,17 +71,16 @@ mod exported {
 /// message; on a refusal the place.
 ///
 /// ```
-/// use vengloaz::raw;
+/// use vengloaz::{fresh, raw};
 ///
-/// let mut image = [0; 32];
-/// image[0] = 2; // N
-/// image[17] = 1; // process 0 has the envelope
+/// let mut image = fresh(2, 0)?;
 /// let mut result = [0xff; 80];
 /// assert_eq!(raw::ring_step(&mut image, &[1, 0, 0, 0, 7, 0, 0, 0], &mut result), 0);
 /// assert_eq!(result[0], 1); // moved
 /// assert_eq!(image[24], 1); // process 1: send told
 /// assert_eq!(image[28], 7); // its note
 /// assert_eq!(raw::ring_step(&mut image, &[2, 0, 0, 0, 7, 0, 0, 0], &mut result), 5);
+/// # Ok::<(), vengloaz::Refusal>(())
 /// ```
 pub fn ring_step(image: &mut [u8], event: &[u8], result: &mut [u8]) -> u64 {
     // SAFETY: see the module's comment.
@@ -101,14 +100,13 @@ pub fn ring_step(image: &mut [u8], event: &[u8], result: &mut [u8]) -> u64 {
 /// records; on a refusal the place.
 ///
 /// ```
-/// use vengloaz::raw;
+/// use vengloaz::{fresh, raw};
 ///
-/// let mut image = [0; 32];
-/// image[0] = 2; // N
-/// image[17] = 1; // process 0 has the envelope
+/// let mut image = fresh(2, 0)?;
 /// let mut result = [0xff; 80];
 /// assert_eq!(raw::ring_run(&mut image, &[0; 511], &mut [], &mut result), 6);
 /// assert_eq!(result, [0; 80]); // a ragged tape has place 0
+/// # Ok::<(), vengloaz::Refusal>(())
 /// ```
 pub fn ring_run(image: &mut [u8], tape: &[u8], ledger: &mut [u8], result: &mut [u8]) -> u64 {
     // SAFETY: see the module's comment.
@@ -129,15 +127,14 @@ pub fn ring_run(image: &mut [u8], tape: &[u8], ledger: &mut [u8], result: &mut [
 /// Tells whether no event of the codes 2 to 7 is possible. Result word: 1 for yes, 0 for no; on a refusal the place.
 ///
 /// ```
-/// use vengloaz::raw;
+/// use vengloaz::{fresh, raw};
 ///
-/// let mut image = [0; 32];
-/// image[0] = 2; // N
-/// image[17] = 1; // process 0 has the envelope
+/// let image = fresh(2, 0)?;
 /// let mut result = [0xff; 80];
 /// assert_eq!(raw::ring_stopped(&image, &mut result), 0);
 /// assert_eq!(result[0], 1);
 /// assert_eq!(raw::ring_stopped(&image, &mut result[..79]), 10);
+/// # Ok::<(), vengloaz::Refusal>(())
 /// ```
 pub fn ring_stopped(image: &[u8], result: &mut [u8]) -> u64 {
     // SAFETY: see the module's comment.

@@ -3,27 +3,29 @@
 use std::error::Error;
 use std::fmt;
 
-use crate::{word, RESULT};
-
 /// Why a call was turned down. The call has then changed no byte lent to it.
 ///
-/// ```
-/// use vengloaz::{step, Refusal};
+/// Its text has the number, the place, and what to look at. Further calls may bring further numbers, so a `match` needs
+/// an arm for the rest.
 ///
-/// let mut image = [0; 32];
-/// image[0] = 2; // N
-/// image[16] = 11; // a stage that isn't
-/// let refusal = step(&mut image, &[0; 8]).unwrap_err();
-/// assert_eq!(refusal, Refusal::ImageUnsound);
-/// assert_eq!((refusal.number(), refusal.place()), (4, 0));
-/// assert_eq!(refusal.to_string(), "refused 4 at 0: image not sound");
+/// ```
+/// use vengloaz::{fresh, run, write, Event, Refusal};
+///
+/// let mut tape = write(2, &[Event::put(1, 7)])?;
+/// tape[12] = 8; // the message's first byte, changed on the way
+/// let refusal = run(&mut fresh(2, 0)?, &tape, &mut []).unwrap_err();
+/// assert_eq!(refusal, Refusal::BlockCheck { block: 0 });
+/// assert_eq!((refusal.number(), refusal.place()), (7, 0));
+/// assert_eq!(refusal.to_string(), "refused 7 at 0: block 0 came damaged: its check isn't that of its bytes");
+/// # Ok::<(), Refusal>(())
 /// ```
 #[derive(Clone, Copy, Debug, PartialEq, Eq, Hash)]
+#[non_exhaustive]
 pub enum Refusal {
-    /// 1: N, given as a number, below 2 or above 64. Only calls of [`crate::raw`] are given one: to
-    /// the others a wrong N makes the image unsound.
+    /// 1: N, given as a number, below 2 or above 64. To a call with an image a wrong N is
+    /// [`Refusal::ImageUnsound`].
     RingSize,
-    /// 2: home not below N. Only [`crate::raw::ring_fresh`] is given a home.
+    /// 2: home not below N.
     Home,
     /// 3: the image buffer is under 16 bytes, or under 16 + 8N.
     ImageShort,
@@ -32,10 +34,10 @@ pub enum Refusal {
     /// 5: an event isn't 8 bytes, its process isn't below N, its code is above 7, or a byte isn't
     /// zero that must be.
     Event {
-        /// The event's number on its tape; 0 for a single event.
+        /// The event's number in its list or on its tape; 0 for a single event.
         place: u64,
     },
-    /// 6: the tape is empty, ragged, or too long.
+    /// 6: the tape or list is empty, ragged, or too long.
     Length,
     /// 7: a block's check differs.
     BlockCheck {
@@ -52,7 +54,8 @@ pub enum Refusal {
         /// The block's place on the tape, from 0.
         block: u64,
     },
-    /// 10: the ledger is too short for the records of the run.
+    /// 10: the ledger is too short for the records of the run; in [`crate::raw`] also an output or a
+    /// result slice.
     OutputShort,
 }
 
@@ -82,10 +85,10 @@ impl Refusal {
         }
     }
 
-    /// The refusal that a call returned as this number, with its place in the result.
-    pub(crate) fn from_result(number: u64, result: &[u8; RESULT]) -> Self {
-        let place = word(result, 0);
-        match number {
+    /// The refusal with this number and place, of which those that have place 0 take none. `None` if no refusal has
+    /// the number.
+    pub const fn from_number(number: u64, place: u64) -> Option<Self> {
+        Some(match number {
             1 => Refusal::RingSize,
             2 => Refusal::Home,
             3 => Refusal::ImageShort,
@@ -96,32 +99,43 @@ impl Refusal {
             8 => Refusal::BlockNumber { block: place },
             9 => Refusal::UnusedSlot { block: place },
             10 => Refusal::OutputShort,
-            other => unreachable!("the calls' contracts have no refusal {other}"),
-        }
-    }
-
-    /// What the number means.
-    const fn meaning(self) -> &'static str {
-        match self {
-            Refusal::RingSize => "N outside 2 to 64",
-            Refusal::Home => "home not below N",
-            Refusal::ImageShort => "image buffer too short",
-            Refusal::ImageUnsound => "image not sound",
-            Refusal::Event { .. } => "not an event of this ring",
-            Refusal::Length => "tape empty, ragged, or too long",
-            Refusal::BlockCheck { .. } => "block check differs",
-            Refusal::BlockNumber { .. } => "block number or count differs",
-            Refusal::UnusedSlot { .. } => "unused slot not zero",
-            Refusal::OutputShort => "output too short",
-        }
+            _ => return None,
+        })
     }
 }
 
-/// `refused R at P`, then what it means.
+/// `refused R at P`, then what to look at.
 impl fmt::Display for Refusal {
     fn fmt(&self, out: &mut fmt::Formatter<'_>) -> fmt::Result {
-        let (number, place) = (self.number(), self.place());
-        write!(out, "refused {number} at {place}: {}", self.meaning())
+        write!(out, "refused {} at {}: ", self.number(), self.place())?;
+        match self {
+            Refusal::RingSize => write!(out, "N is not 2 to 64"),
+            Refusal::Home => write!(out, "home is not below N"),
+            Refusal::ImageShort => write!(out, "the image has under 16 bytes, or under 16 + 8N for its byte 0, N"),
+            Refusal::ImageUnsound => write!(out, "the image is not sound: what wrote to it beside these calls?"),
+            Refusal::Event { place } => write!(
+                out,
+                "event {place} is none of this ring: it has 8 bytes, a process below N, a code up to 7, zeros in bytes \
+                 2 and 3, and a message only with code 0"
+            ),
+            Refusal::Length => write!(
+                out,
+                "the length is wrong: a tape has 1 to 65536 whole blocks of 512 bytes, a list 1 to 4128768 events, and \
+                 ringrun takes up to 64 blocks"
+            ),
+            Refusal::BlockCheck { block } => {
+                write!(out, "block {block} came damaged: its check isn't that of its bytes")
+            }
+            Refusal::BlockNumber { block } => write!(
+                out,
+                "block {block} has another number in bytes 0 and 1, or in bytes 2 and 3 a count that is not 63 (in the \
+                 last block 1 to 63)"
+            ),
+            Refusal::UnusedSlot { block } => write!(out, "block {block} has bytes other than 0 behind its last event"),
+            Refusal::OutputShort => {
+                write!(out, "the ledger, output or result slice is too short: a record has 12 bytes, a result 80")
+            }
+        }
     }
 }
 

@@ -2,38 +2,26 @@
 
 use crate::support::*;
 use samples::{all, Sample};
-use vengloaz::{records, run, stopped, Outcome};
+use vengloaz::{fresh, records, run, stopped, Refusal};
 
-/// What ringrun must print, by the proved calls. Those know nothing of N and home as arguments and of
-/// ringrun's most blocks; nothing is given where one of these is at fault.
+/// What ringrun must print, by the proved calls and the package's own lines. Those know nothing of a missing N or home,
+/// nor of ringrun's most blocks; nothing is given where one of these is at fault.
 fn proved(sample: &Sample) -> Option<String> {
     let [n, home, tape @ ..] = &sample.input[..] else { return None };
-    if !(2..=64).contains(n) || home >= n || tape.len() > 64 * 512 {
+    if tape.len() > 64 * 512 {
         return None;
     }
-    let mut image = vec![0; 16 + 8 * usize::from(*n)];
-    image[0] = *n;
-    image[16 + 8 * usize::from(*home) + 1] = 1;
+    let refused = |refusal: Refusal| format!("refused {} at {}\n", refusal.number(), refusal.place());
+    Some(ran((*n).into(), (*home).into(), tape).unwrap_or_else(refused))
+}
+
+fn ran(n: u64, home: u64, tape: &[u8]) -> Result<String, Refusal> {
+    let mut image = fresh(n, home)?;
     let mut ledger = vec![0; 12 * 63 * 64];
-    let counts = match run(&mut image, tape, &mut ledger) {
-        Ok(counts) => counts,
-        Err(refusal) => return Some(format!("refused {} at {}\n", refusal.number(), refusal.place())),
-    };
-    let mut text = String::new();
-    for record in records(&ledger[..12 * counts.records as usize]) {
-        let (name, message) = match record.outcome {
-            Outcome::Fill(message) => ("fill", message),
-            Outcome::Take(message) => ("take", message),
-            Outcome::Sent => ("sent", 0),
-            Outcome::Got => ("got", 0),
-            other => panic!("{}: a record of {other:?}", sample.name),
-        };
-        text += &format!("{} {} {name} {message}\n", record.event, record.process);
-    }
-    let vengloaz::Counts { puts, gets, fills, takes, sent, got, idle, .. } = counts;
-    text += &format!("puts {puts} gets {gets} fills {fills} takes {takes} sent {sent} got {got} idle {idle}\n");
-    let end = if stopped(&image).expect("the image is sound") { "stopped\n" } else { "moving\n" };
-    Some(text + end)
+    let counts = run(&mut image, tape, &mut ledger)?;
+    let lines: String = records(&ledger[..counts.ledger_bytes()]).map(|record| format!("{record}\n")).collect();
+    let end = if stopped(&image)? { "stopped" } else { "moving" };
+    Ok(format!("{lines}{counts}\n{end}\n"))
 }
 
 #[test]

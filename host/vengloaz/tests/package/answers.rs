@@ -1,0 +1,121 @@
+//! What the calls answer when they aren't refused.
+
+use crate::support::{events, ring, tape, ENTRY};
+use vengloaz::{fresh, read, records, run, step, stopped, write, Counts, Event, Outcome, Record};
+
+/// The last image of entry 1, which entry 2 gives.
+const LAST_IMAGE: [u8; 32] =
+    [2, 0, 0, 0, 0, 0, 0, 0, 0, 0, 0, 0, 0, 0, 0, 0, 0, 1, 4, 0, 0, 0, 0, 0, 0, 0, 0, 0, 0, 0, 0, 0];
+
+#[test]
+fn entry_1_by_steps() {
+    let mut image = ring();
+    for (number, event) in events(ENTRY).iter().enumerate() {
+        let due = match number {
+            7 => Outcome::Fill(7),
+            14 => Outcome::Sent,
+            17 => Outcome::Take(7),
+            19 => Outcome::Got,
+            _ => Outcome::Moved,
+        };
+        assert_eq!(step(&mut image, &event.to_bytes()), Ok(due), "event {number}");
+    }
+    assert_eq!(image, LAST_IMAGE);
+    assert_eq!(stopped(&image), Ok(true));
+}
+
+#[test]
+fn entry_1_by_a_run() {
+    let mut image = ring();
+    let mut ledger = [0xEE; 50];
+    let counts = run(&mut image, &tape(&events(ENTRY)), &mut ledger).expect("entry 1 isn't refused");
+    assert_eq!(counts, Counts { puts: 1, gets: 1, fills: 1, takes: 1, sent: 1, got: 1, idle: 0, records: 4 });
+    assert_eq!(counts.ledger_bytes(), 48);
+    assert_eq!(image, LAST_IMAGE);
+    assert_eq!(ledger[48..], [0xEE; 2]);
+    let lines: Vec<Record> = records(&ledger[..48]).collect();
+    let due = [
+        Record { event: 7, process: 1, outcome: Outcome::Fill(7) },
+        Record { event: 14, process: 1, outcome: Outcome::Sent },
+        Record { event: 17, process: 0, outcome: Outcome::Take(7) },
+        Record { event: 19, process: 0, outcome: Outcome::Got },
+    ];
+    assert_eq!(lines, due);
+}
+
+#[test]
+fn each_count_has_its_own_field() {
+    let counts = |events: &[Event]| run(&mut ring(), &tape(events), &mut [0; 60]).expect("these events are right");
+    let mut list = events(ENTRY);
+    let some = Counts { puts: 1, gets: 1, fills: 1, records: 1, ..Counts::default() };
+    assert_eq!(counts(&list[..11]), some);
+    assert_eq!(counts(&list[..15]), Counts { sent: 1, records: 2, ..some });
+
+    list.truncate(18);
+    list.extend(events("1.0(8) 1.0(9) 0.2 0.4"));
+    let some = Counts { puts: 2, gets: 1, fills: 1, takes: 1, sent: 1, got: 0, idle: 3, records: 3 };
+    assert_eq!(counts(&list), some);
+
+    list.extend(events("0.3 0.7 1.3 1.7 0.6 0.7 1.4 1.7 1.2"));
+    assert_eq!(counts(&list), Counts { fills: 2, got: 1, records: 5, ..some });
+}
+
+#[test]
+fn the_first_ten_events_stop_with_nothing_sent() {
+    let mut image = ring();
+    let counts = run(&mut image, &tape(&events(ENTRY)[..10]), &mut [0; 12]).expect("entry 3 isn't refused");
+    assert_eq!((counts.puts, counts.fills, counts.sent, counts.records), (1, 1, 0, 1));
+    assert_eq!(stopped(&image), Ok(true));
+}
+
+#[test]
+fn idle_events() {
+    let mut image = ring();
+    assert_eq!(step(&mut image, &Event::new(1, 7).to_bytes()), Ok(Outcome::Idle));
+    assert_eq!(image, ring());
+    assert_eq!(step(&mut image, &Event::put(1, 7).to_bytes()), Ok(Outcome::Moved));
+    assert_eq!(step(&mut image, &Event::put(1, 8).to_bytes()), Ok(Outcome::Idle));
+    assert_eq!(image[28..], [7, 0, 0, 0]);
+    assert_eq!(stopped(&image), Ok(false));
+}
+
+#[test]
+fn a_message_keeps_all_its_bits() {
+    let mut list = events(ENTRY);
+    list[0].message = 0xFEDC_BA98;
+    assert_eq!(read(2, &tape(&list)), Ok(list.clone()));
+    let mut image = ring();
+    for (number, event) in list.iter().enumerate() {
+        let outcome = step(&mut image, &event.to_bytes());
+        match number {
+            7 => assert_eq!(outcome, Ok(Outcome::Fill(0xFEDC_BA98))),
+            17 => assert_eq!(outcome, Ok(Outcome::Take(0xFEDC_BA98))),
+            _ => assert!(outcome.is_ok()),
+        }
+    }
+}
+
+/// Every ring and home: 16 + 8N bytes, all zero but N and the home's flag.
+#[test]
+fn fresh_rings() {
+    for n in 2..=64 {
+        for home in 0..n {
+            let mut due = vec![0; 16 + 8 * n as usize];
+            due[0] = n as u8;
+            due[16 + 8 * home as usize + 1] = 1;
+            assert_eq!(fresh(n, home), Ok(due));
+        }
+    }
+}
+
+/// Lists about as long as one, two and many blocks: the tape is that of plain, and reads back as the list.
+#[test]
+fn lists_are_written_and_read_back() {
+    for length in [1, 2, 62, 63, 64, 125, 126, 127, 4032, 4033, 65_535] {
+        let list: Vec<Event> = (0..length).map(|k| Event::put((k % 64) as u8, 0xFFFF_FFFF - k)).collect();
+        let bytes: Vec<u8> = list.iter().flat_map(|event| event.to_bytes()).collect();
+        let written = write(64, &list).expect("these are events of a ring of 64");
+        assert!(written == guide::tape(64, &bytes), "{length} events");
+        assert!(read(64, &written) == Ok(list), "{length} events");
+    }
+}
