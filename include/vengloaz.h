@@ -140,7 +140,7 @@ enum ring_process {
     RING_PROCESS_STAGE = 0,
     RING_PROCESS_FLAGS = 1,     /* RING_HAVE, RING_ARRIVING, RING_NEWS */
     RING_PROCESS_REQUESTS = 2,  /* RING_RIGHT_ASKED_FULL to RING_LINK_EMPTY */
-    RING_PROCESS_NOTE = 4       /* 32 bits: the message to send; 0 outside stages 1 to 3 */
+    RING_PROCESS_NOTE = 4       /* 32 bits: the message of a put until it is filled in; 0 but in stages 1 to 3 */
 };
 
 enum ring_flag {

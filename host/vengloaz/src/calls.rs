@@ -1,6 +1,6 @@
 //! The six calls of the reference, with types.
 
-use crate::result::ResultSlice;
+use crate::result_slice::ResultSlice;
 use crate::{raw, Counts, Event, Outcome, Refusal};
 
 /// The bytes of a block, and of the events that it has room for.

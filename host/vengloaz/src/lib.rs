@@ -67,7 +67,7 @@ mod ledger;
 pub mod raw;
 mod refusal;
 #[cfg(any(feature = "proved", doc))]
-mod result;
+mod result_slice;
 
 pub use answer::{Counts, Outcome};
 #[cfg(any(feature = "proved", doc))]
