@@ -9,16 +9,6 @@
 #include <inttypes.h>
 #include <stdio.h>
 
-/* Word k of a result slice. */
-static uint64_t word(const uint8_t *result, int k)
-{
-    uint64_t value = 0;
-    int byte;
-    for (byte = 7; byte >= 0; byte--)
-        value = value << 8 | result[8 * k + byte];
-    return value;
-}
-
 /* Performs an event, and prints what came of it. */
 static void step(uint8_t *image, size_t image_length, const uint8_t *event)
 {
@@ -28,9 +18,10 @@ static void step(uint8_t *image, size_t image_length, const uint8_t *event)
 
     printf("%d.%d: ", event[RING_EVENT_PROCESS], event[RING_EVENT_CODE]);
     if (refusal != RING_DONE)
-        printf("refused %" PRIu64 " at %" PRIu64 "\n", refusal, word(result, RING_WORD_PLACE));
+        printf("refused %" PRIu64 " at %" PRIu64 "\n", refusal, ring_word(result, RING_WORD_PLACE));
     else
-        printf("%s %" PRIu64 "\n", outcomes[word(result, RING_WORD_OUTCOME)], word(result, RING_WORD_MESSAGE));
+        printf("%s %" PRIu64 "\n", outcomes[ring_word(result, RING_WORD_OUTCOME)],
+               ring_word(result, RING_WORD_MESSAGE));
 }
 
 /* Prints whether the ring can still move by itself. */
@@ -38,14 +29,14 @@ static void stopped(const uint8_t *image, size_t image_length)
 {
     uint8_t result[RING_RESULT_SIZE];
     if (ring_stopped(image, image_length, result, sizeof result) == RING_DONE)
-        printf("%s\n", word(result, RING_WORD_STOPPED) ? "stopped" : "moving");
+        printf("%s\n", ring_word(result, RING_WORD_STOPPED) ? "stopped" : "moving");
 }
 
 int main(void)
 {
     static const uint8_t put[RING_EVENT_SIZE] = {0, RING_WISH_PUT, 0, 0, 7, 0, 0, 0};
     static const uint8_t signal[RING_EVENT_SIZE] = {0, RING_HEAR_MAIN, 0, 0, 0, 0, 0, 0};
-    static const uint8_t news[RING_EVENT_SIZE] = {0, RING_PUT, 0, 0, 0, 0, 0, 0};
+    static const uint8_t news[RING_EVENT_SIZE] = {0, RING_PUT_ACTS, 0, 0, 0, 0, 0, 0};
     static const uint8_t work[RING_EVENT_SIZE] = {0, RING_WORK, 0, 0, 0, 0, 0, 0};
     static const uint8_t nobody[RING_EVENT_SIZE] = {2, RING_WISH_GET, 0, 0, 0, 0, 0, 0};
     uint8_t image[RING_IMAGE_SIZE(2)];

@@ -63,8 +63,8 @@ enum ring_refusal {
     RING_DONE = 0,
     RING_REFUSED_SIZE = 1,     /* n is not 2 to 64 */
     RING_REFUSED_HOME = 2,     /* home is not below n */
-    RING_REFUSED_SHORT = 3,    /* image under 16 bytes, or under 16 + 8n */
-    RING_REFUSED_UNSOUND = 4,  /* image not sound */
+    RING_REFUSED_SHORT = 3,    /* image under 16 bytes, or under 16 + 8n for the n of 2 to 64 in its byte 0 */
+    RING_REFUSED_UNSOUND = 4,  /* image not sound, or its byte 0 not 2 to 64, whatever its length */
     RING_REFUSED_EVENT = 5,    /* not an event of this ring; place: its number in list or tape, 0 for a single one */
     RING_REFUSED_LENGTH = 6,   /* tape or list of a wrong length: none, not in whole blocks or events, too many */
     RING_REFUSED_CHECK = 7,    /* block check differs; place: the block's position on the tape, as for 8 and 9 */
@@ -90,6 +90,16 @@ enum ring_word {
     RING_WORD_STOPPED = 0,  /* of stopped: 1 or 0 */
     RING_WORD_FILLED = 0    /* of writer and reader: bytes at the start of the output */
 };
+
+/* Word k of a result slice. */
+static inline uint64_t ring_word(const uint8_t *result, size_t k)
+{
+    uint64_t word = 0;
+    size_t byte;
+    for (byte = 8; byte-- > 0;)
+        word = word << 8 | result[8 * k + byte];
+    return word;
+}
 
 /* What an event did; fill to got are the codes of ledger records too. */
 enum ring_outcome {
@@ -190,7 +200,7 @@ enum ring_code {
     RING_HEAR_ENVELOPE = 4,  /* get takes the envelope from the link */
     RING_HEAR_FULL = 5,      /* get takes the request for a full envelope from the link */
     RING_HEAR_EMPTY = 6,     /* get takes the request for an empty envelope from the link */
-    RING_PUT = 7             /* put does what its news ask for */
+    RING_PUT_ACTS = 7        /* put does what its news ask for */
 };
 
 /* ---- a block of a tape */

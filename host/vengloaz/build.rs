@@ -5,6 +5,7 @@
 //! that was. An archive that is older than a source of the crates isn't what these sources say, and is an error.
 
 use std::env;
+use std::ffi::OsString;
 use std::fs;
 use std::io;
 use std::path::{Path, PathBuf};
@@ -16,22 +17,28 @@ const ARCHIVES: [&str; 2] = ["ring_host", "ring_tools"];
 
 fn main() {
     println!("cargo::rerun-if-changed=build.rs");
+    println!("cargo::rerun-if-env-changed=RING_HOST_DIR");
     if env::var_os("CARGO_FEATURE_PROVED").is_none() {
         return;
     }
     let workspace = workspace();
     let directory = directory(&workspace);
-    let newest = newest_source(&workspace.join("../crates"));
-    println!("cargo::rustc-link-search=native={}", directory.display());
-    for name in ARCHIVES {
-        let archive = directory.join(format!("lib{name}.a"));
-        println!("cargo::rerun-if-changed={}", archive.display());
-        let Ok(made) = changed(&archive) else {
+    let sources = sources(&workspace.join("../crates"));
+    let newest = sources.iter().filter_map(|folder| newest_in(folder).expect("the sources can be read")).max();
+    let archives = ARCHIVES.map(|name| directory.join(format!("lib{name}.a")));
+    for archive in &archives {
+        let Ok(made) = changed(archive) else {
             give_up(&format!("the proved library is not built: there is no {}", archive.display()));
         };
-        if let Some((source, _)) = newest.as_ref().filter(|(_, written)| *written > made) {
+        if let Some((_, source)) = newest.as_ref().filter(|(written, _)| *written > made) {
             give_up(&format!("{} is older than {}", archive.display(), source.display()));
         }
+    }
+    for looked_at in sources.iter().chain(&archives) {
+        println!("cargo::rerun-if-changed={}", looked_at.display());
+    }
+    println!("cargo::rustc-link-search=native={}", directory.display());
+    for name in ARCHIVES {
         println!("cargo::rustc-link-lib=static={name}");
     }
 }
@@ -44,42 +51,31 @@ fn workspace() -> PathBuf {
 
 /// Where the archives are.
 fn directory(workspace: &Path) -> PathBuf {
-    println!("cargo::rerun-if-env-changed=RING_HOST_DIR");
-    match env::var_os("RING_HOST_DIR") {
-        Some(named) => workspace.join(named),
-        None => workspace.join("../target/staticlib"),
-    }
+    named_directory().map_or(workspace.join("../target/staticlib"), |named| workspace.join(named))
 }
 
-/// The source that was written last, of those that say what an archive does: the crates' code and definitions. None
-/// where the package lies without the crates.
-fn newest_source(crates: &Path) -> Option<(PathBuf, SystemTime)> {
-    let mut newest = None;
-    for each in fs::read_dir(crates).ok()?.flatten() {
-        for folder in ["src", "specs"].map(|name| each.path().join(name)) {
-            if folder.is_dir() {
-                println!("cargo::rerun-if-changed={}", folder.display());
-                newest = newer(newest, newest_in(&folder).expect("the crates' sources can be read"));
-            }
-        }
-    }
-    newest
+/// What RING_HOST_DIR says, if it says anything.
+fn named_directory() -> Option<OsString> {
+    env::var_os("RING_HOST_DIR").filter(|named| !named.is_empty())
 }
 
-/// The file that was written last, of a folder and those in it.
-fn newest_in(folder: &Path) -> io::Result<Option<(PathBuf, SystemTime)>> {
+/// The folders that say what an archive does: the crates' code and definitions. None where the package lies without the
+/// crates.
+fn sources(crates: &Path) -> Vec<PathBuf> {
+    let Ok(crates) = fs::read_dir(crates) else { return Vec::new() };
+    let folders = crates.flatten().flat_map(|each| ["src", "specs"].map(|name| each.path().join(name)));
+    folders.filter(|folder| folder.is_dir()).collect()
+}
+
+/// The file of a folder and those in it that was written last, and when.
+fn newest_in(folder: &Path) -> io::Result<Option<(SystemTime, PathBuf)>> {
     let mut newest = None;
     for entry in fs::read_dir(folder)? {
         let path = entry?.path();
-        let found = if path.is_dir() { newest_in(&path)? } else { Some((path.clone(), changed(&path)?)) };
-        newest = newer(newest, found);
+        let found = if path.is_dir() { newest_in(&path)? } else { Some((changed(&path)?, path)) };
+        newest = newest.max(found);
     }
     Ok(newest)
-}
-
-/// The one that was written later.
-fn newer(one: Option<(PathBuf, SystemTime)>, other: Option<(PathBuf, SystemTime)>) -> Option<(PathBuf, SystemTime)> {
-    one.into_iter().chain(other).max_by_key(|(_, written)| *written)
 }
 
 /// When a file was last written.
@@ -91,7 +87,13 @@ fn changed(file: &Path) -> io::Result<SystemTime> {
 fn give_up(what: &str) -> ! {
     println!("cargo::error={what}");
     println!("cargo::error=run `make archives` in the repository's root, which proves and makes both archives");
-    println!("cargo::error=or set RING_HOST_DIR to the directory that has them; a relative one counts from host/");
+    match named_directory() {
+        Some(named) => println!(
+            "cargo::error=then unset RING_HOST_DIR, which is {}, or copy them there; a relative one counts from host/",
+            named.display()
+        ),
+        None => println!("cargo::error=if they lie elsewhere, let RING_HOST_DIR name that directory"),
+    }
     println!("cargo::error=what needs no call builds without them: --no-default-features");
     process::exit(1);
 }

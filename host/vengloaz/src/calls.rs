@@ -32,15 +32,12 @@ pub fn fresh(n: u64, home: u64) -> Result<Vec<u8>, Refusal> {
     Ok(image)
 }
 
-/// Performs one event on an image.
-///
-/// `event` is 8 bytes, as [`Event::to_bytes`] makes them. One that isn't possible is
-/// [`Outcome::Idle`] and changes no byte.
+/// Performs one event on an image. One that isn't possible is [`Outcome::Idle`] and changes no byte.
 ///
 /// # Errors
 ///
 /// [`Refusal::ImageShort`], [`Refusal::ImageUnsound`] or [`Refusal::Event`] with place 0. The
-/// image is then as it was.
+/// image is then as it was. Bytes that may be no event are for [`raw::ring_step`].
 ///
 /// # Examples
 ///
@@ -48,15 +45,15 @@ pub fn fresh(n: u64, home: u64) -> Result<Vec<u8>, Refusal> {
 /// use vengloaz::{fresh, step, Event, Outcome, Refusal};
 ///
 /// let mut image = fresh(2, 0)?;
-/// assert_eq!(step(&mut image, &Event::new(1, 7).to_bytes()), Ok(Outcome::Idle)); // no news
-/// assert_eq!(step(&mut image, &Event::put(1, 7).to_bytes()), Ok(Outcome::Moved));
-/// assert_eq!(step(&mut image, &Event::put(1, 8).to_bytes()), Ok(Outcome::Idle)); // not idle itself
-/// assert_eq!(step(&mut image, &Event::new(2, 3).to_bytes()), Err(Refusal::Event { place: 0 }));
-/// assert_eq!(step(&mut image[..31], &Event::new(1, 3).to_bytes()), Err(Refusal::ImageShort));
+/// assert_eq!(step(&mut image, Event::new(1, 7)), Ok(Outcome::Idle)); // no news
+/// assert_eq!(step(&mut image, Event::put(1, 7)), Ok(Outcome::Moved));
+/// assert_eq!(step(&mut image, Event::put(1, 8)), Ok(Outcome::Idle)); // not idle itself
+/// assert_eq!(step(&mut image, Event::new(2, 3)), Err(Refusal::Event { place: 0 }));
+/// assert_eq!(step(&mut image[..31], Event::new(1, 3)), Err(Refusal::ImageShort));
 /// # Ok::<(), Refusal>(())
 /// ```
-pub fn step(image: &mut [u8], event: &[u8]) -> Result<Outcome, Refusal> {
-    Ok(ResultSlice::of(|result| raw::ring_step(image, event, result))?.outcome())
+pub fn step(image: &mut [u8], event: Event) -> Result<Outcome, Refusal> {
+    Ok(ResultSlice::of(|result| raw::ring_step(image, &event.to_bytes(), result))?.outcome())
 }
 
 /// Performs every event of a tape on an image and writes a record for each fill, take, sent and
@@ -118,7 +115,7 @@ pub fn run(image: &mut [u8], tape: &[u8], ledger: &mut [u8]) -> Result<Counts, R
 /// let mut image = fresh(2, 0)?;
 /// assert!(stopped(&image)?);
 ///
-/// step(&mut image, &Event::get(1).to_bytes())?;
+/// step(&mut image, Event::get(1))?;
 /// assert!(!stopped(&image)?); // its get thread may take the signal
 ///
 /// image[17] = 0; // the envelope is nowhere

@@ -8,13 +8,13 @@ use std::str::FromStr;
 ///
 /// | code | event |
 /// |---|---|
-/// | 0 | main wishes to send the message: a put starts |
-/// | 1 | main wishes to receive: a get starts |
-/// | 2 | main works: it fills the envelope or takes the message |
-/// | 3 | get takes the local signal |
-/// | 4 | get takes the arriving envelope |
-/// | 5, 6 | get hears the right's request for a full, for an empty envelope |
-/// | 7 | put |
+/// | 0 | main wishes to put, and tells the message |
+/// | 1 | main wishes to get |
+/// | 2 | main works: it fills the envelope, or takes the message from it |
+/// | 3 | get takes main's signal |
+/// | 4 | get takes the envelope from the link |
+/// | 5, 6 | get takes the request for a full, an empty envelope from the link |
+/// | 7 | put does what its news ask for |
 ///
 /// Any values may be given: the calls refuse a process not below N, a code above 7, and a message
 /// other than 0 with a code other than 0.
@@ -50,12 +50,12 @@ impl Event {
         Event { process, code, message: 0 }
     }
 
-    /// Event 0: the process wishes to send the message.
+    /// Event 0: main wishes to put this message.
     pub const fn put(process: u8, message: u32) -> Self {
         Event { process, code: 0, message }
     }
 
-    /// Event 1: the process wishes to receive.
+    /// Event 1: main wishes to get.
     pub const fn get(process: u8) -> Self {
         Event::new(process, 1)
     }

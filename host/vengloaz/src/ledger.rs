@@ -144,7 +144,7 @@ pub struct Difference<'a> {
     pub core: &'a [u8],
 }
 
-/// `record 2: reference 17 0 take 7, core 17 0 take 8`; bytes that are no record are shown as bytes.
+/// `record 2: reference 17 0 take 7, core 17 0 take 8`; bytes that are no record are shown in hexadecimal.
 impl fmt::Display for Difference<'_> {
     fn fmt(&self, out: &mut fmt::Formatter<'_>) -> fmt::Result {
         let Difference { record, reference, core } = self;

@@ -22,12 +22,12 @@ use std::fmt;
 #[derive(Clone, Copy, Debug, PartialEq, Eq, Hash)]
 #[non_exhaustive]
 pub enum Refusal {
-    /// 1: N, given as a number, below 2 or above 64. To a call with an image a wrong N is
-    /// [`Refusal::ImageUnsound`].
+    /// 1: N, given as a number, below 2 or above 64.
     RingSize,
     /// 2: home not below N.
     Home,
-    /// 3: the image buffer is under 16 bytes, or under 16 + 8N.
+    /// 3: the image buffer is under 16 bytes, or under 16 + 8N for the N of 2 to 64 in its byte 0. Any
+    /// other byte 0 is [`Refusal::ImageUnsound`], whatever the length.
     ImageShort,
     /// 4: the image isn't sound.
     ImageUnsound,

@@ -10,7 +10,7 @@ const LAST_IMAGE: [u8; 32] =
 #[test]
 fn entry_1_by_steps() {
     let mut image = ring();
-    for (number, event) in events(ENTRY).iter().enumerate() {
+    for (number, event) in events(ENTRY).into_iter().enumerate() {
         let due = match number {
             7 => Outcome::Fill(7),
             14 => Outcome::Sent,
@@ -18,7 +18,7 @@ fn entry_1_by_steps() {
             19 => Outcome::Got,
             _ => Outcome::Moved,
         };
-        assert_eq!(step(&mut image, &event.to_bytes()), Ok(due), "event {number}");
+        assert_eq!(step(&mut image, event), Ok(due), "event {number}");
     }
     assert_eq!(image, LAST_IMAGE);
     assert_eq!(stopped(&image), Ok(true));
@@ -71,10 +71,10 @@ fn the_first_ten_events_stop_with_nothing_sent() {
 #[test]
 fn idle_events() {
     let mut image = ring();
-    assert_eq!(step(&mut image, &Event::new(1, 7).to_bytes()), Ok(Outcome::Idle));
+    assert_eq!(step(&mut image, Event::new(1, 7)), Ok(Outcome::Idle));
     assert_eq!(image, ring());
-    assert_eq!(step(&mut image, &Event::put(1, 7).to_bytes()), Ok(Outcome::Moved));
-    assert_eq!(step(&mut image, &Event::put(1, 8).to_bytes()), Ok(Outcome::Idle));
+    assert_eq!(step(&mut image, Event::put(1, 7)), Ok(Outcome::Moved));
+    assert_eq!(step(&mut image, Event::put(1, 8)), Ok(Outcome::Idle));
     assert_eq!(image[28..], [7, 0, 0, 0]);
     assert_eq!(stopped(&image), Ok(false));
 }
@@ -85,8 +85,8 @@ fn a_message_keeps_all_its_bits() {
     list[0].message = 0xFEDC_BA98;
     assert_eq!(read(2, &tape(&list)), Ok(list.clone()));
     let mut image = ring();
-    for (number, event) in list.iter().enumerate() {
-        let outcome = step(&mut image, &event.to_bytes());
+    for (number, event) in list.into_iter().enumerate() {
+        let outcome = step(&mut image, event);
         match number {
             7 => assert_eq!(outcome, Ok(Outcome::Fill(0xFEDC_BA98))),
             17 => assert_eq!(outcome, Ok(Outcome::Take(0xFEDC_BA98))),

@@ -49,8 +49,8 @@ fn bytes(block: &str) -> Vec<u8> {
 /// The image after the first so many events of the story.
 fn after(count: usize) -> Vec<u8> {
     let mut image = ring();
-    for event in &events(ENTRY)[..count] {
-        step(&mut image, &event.to_bytes()).expect("the story isn't refused");
+    for event in events(ENTRY).into_iter().take(count) {
+        step(&mut image, event).expect("the story isn't refused");
     }
     image
 }

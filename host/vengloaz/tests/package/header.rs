@@ -48,7 +48,7 @@ fn word(result: &[u8], k: usize) -> u64 {
 fn after(n: u64, list: &str) -> Vec<u8> {
     let mut image = fresh(n, 0).expect("there is such a ring");
     for event in events(list) {
-        step(&mut image, &event.to_bytes()).expect("the list isn't refused");
+        step(&mut image, event).expect("the list isn't refused");
     }
     image
 }
@@ -88,7 +88,7 @@ fn sizes(numbers: &Numbers) {
 
     let event = numbers.of("EVENT_SIZE");
     for length in 0..20 {
-        assert_eq!(step(&mut ring(), &vec![0; length]).is_ok(), length == event);
+        assert_eq!(raw::ring_step(&mut ring(), &vec![0; length], &mut [0; 80]) == 0, length == event);
     }
 
     let (block, slots) = (numbers.of("BLOCK_SIZE"), numbers.of("BLOCK_EVENTS"));
@@ -198,25 +198,25 @@ fn steps(numbers: &Numbers) {
     let list = [
         (1, "WISH_PUT", "MOVED"),
         (1, "HEAR_MAIN", "MOVED"),
-        (1, "PUT", "MOVED"),
-        (1, "PUT", "IDLE"),
+        (1, "PUT_ACTS", "MOVED"),
+        (1, "PUT_ACTS", "IDLE"),
         (0, "HEAR_EMPTY", "MOVED"),
-        (0, "PUT", "MOVED"),
+        (0, "PUT_ACTS", "MOVED"),
         (1, "HEAR_ENVELOPE", "MOVED"),
-        (1, "PUT", "MOVED"),
+        (1, "PUT_ACTS", "MOVED"),
         (1, "WORK", "FILL"),
         (1, "HEAR_MAIN", "MOVED"),
-        (1, "PUT", "MOVED"),
+        (1, "PUT_ACTS", "MOVED"),
         (0, "WISH_GET", "MOVED"),
         (0, "HEAR_MAIN", "MOVED"),
-        (0, "PUT", "MOVED"),
+        (0, "PUT_ACTS", "MOVED"),
         (1, "HEAR_FULL", "MOVED"),
-        (1, "PUT", "SENT"),
+        (1, "PUT_ACTS", "SENT"),
         (0, "HEAR_ENVELOPE", "MOVED"),
-        (0, "PUT", "MOVED"),
+        (0, "PUT_ACTS", "MOVED"),
         (0, "WORK", "TAKE"),
         (0, "HEAR_MAIN", "MOVED"),
-        (0, "PUT", "GOT"),
+        (0, "PUT_ACTS", "GOT"),
     ];
     let mut image = ring();
     for (process, code, outcome) in list {
