@@ -64,7 +64,7 @@ enum ring_refusal {
     RING_REFUSED_SIZE = 1,     /* n is not 2 to 64 */
     RING_REFUSED_HOME = 2,     /* home is not below n */
     RING_REFUSED_SHORT = 3,    /* image under 16 bytes, or under 16 + 8n for the n of 2 to 64 in its byte 0 */
-    RING_REFUSED_UNSOUND = 4,  /* image not sound, or its byte 0 not 2 to 64, whatever its length */
+    RING_REFUSED_UNSOUND = 4,  /* image not sound, or of 16 bytes or more and its byte 0 not 2 to 64 */
     RING_REFUSED_EVENT = 5,    /* not an event of this ring; place: its number in list or tape, 0 for a single one */
     RING_REFUSED_LENGTH = 6,   /* tape or list of a wrong length: none, not in whole blocks or events, too many */
     RING_REFUSED_CHECK = 7,    /* block check differs; place: the block's position on the tape, as for 8 and 9 */

@@ -1,7 +1,6 @@
 -- What an accepted tape and an accepted list have, and that whatever has it is accepted: each verdict is a row of
 -- tests, taken apart here once, in both directions. The loops keep that the row from here on decides for all, since
--- what came before is fine (machine/proofs/Laws/First); inside a block the same holds of its slots (Ways), and the
--- slots' loop starts behind those that are sure to fit (Together).
+-- what came before is fine (machine/proofs/Laws/First); inside a block the same holds of its slots (Ways).
 use Prim.Native.Nat.{ℕ, _+_, _-_, _*_, _/_, _%_, _≤_, _<_}
 use mathlib.Core.Path.{_≡_, refl}
 use mathlib.Core.Bool.{Bool, true, false, _&&_, _||_, or-true}

@@ -2,4 +2,3 @@
 pub mod Blocks
 pub mod Lengths
 pub mod Ways
-pub mod Together

@@ -1,6 +1,6 @@
 -- Each way through the tests of a tape and of a list is that way through the rule. What the functions read is a
 -- variable here, with the value that it is known to be.
-use Prim.Native.Nat.{ℕ, _+_, _-_, _*_, _/_, _%_, _≤_, _<_}
+use Prim.Native.Nat.{ℕ, _+_, _-_, _*_, _/_, _%_, _≤_}
 use mathlib.Core.Path.{_≡_, sym, ap, _∙_}
 use mathlib.Core.Bool.{Bool, true, false, _&&_, _||_}
 use mathlib.Core.List.{List}
@@ -14,12 +14,11 @@ use Rattle.machine.specs.declared.Verdict.{Verdict}
 use Rattle.machine.specs.declared.Verdict.the-variants as verdict
 use Rattle.machine.specs.Bytes.{zeros}
 use Rattle.machine.specs.Tape.{check, covered, slotAt, blockNumber, blockCount, blockCheck}
-use Rattle.machine.specs.Refusals.{unless, orElse, first, eventFits, lengthVerdict, mostBlocks, mostEvents, blockFits}
+use Rattle.machine.specs.Refusals.{unless, orElse, first, lengthVerdict, mostBlocks, mostEvents, blockFits}
 use Rattle.machine.specs.Refusals.{checkVerdict, numberVerdict, usedVerdict, unusedVerdict}
 use Rattle.machine.specs.Refusals.{blockVerdict, tapeVerdict, listVerdict}
 use Rattle.machine.proofs.Laws.Refusals.{unless-fine, second-fine, refused-first, else-else}
 use Rattle.tape_test.specs.Accepted.{headVerdict, eventsOn, Accepted}
-use Rattle.machine.proofs.Laws.First.{first-from}
 use Rattle.tape_test.proofs.Blocks.{fits-most, eventTest, slotTest, tape-fine}
 use Rattle.tape_test.proofs.Lengths.{length-list}
 
@@ -111,22 +110,17 @@ module _ (codes n : ℕ) (s : List ℕ) (b : ℕ) where
       unfolding unusedVerdict
       slots-fine e = by-slots ∙ rw (used, ← counts, sym is ∙ e)
 
-  -- before the first slot that is not known to fit
-  pub slots-from : {count known : ℕ} → count ≡ blockCount s b → known ≤ count
-      → ((j : ℕ) → j < known → eventFits codes n s (slotAt b j) ≡ true)
-      → first (slotTest codes n s b) known (count - known) ≡ usedVerdict codes n s b
+  -- before the first slot
+  pub slots-start : {count : ℕ} → count ≡ blockCount s b
+      → first (slotTest codes n s b) 0 (count - 0) ≡ usedVerdict codes n s b
   unfolding usedVerdict
-  slots-from {count} {known} e some fit =
-      let row = slotTest codes n s b in
-      first-from row known count some (λ j h. rw (fit j h)) ∙ ap (first row 0) e
+  slots-start e = ap (first (slotTest codes n s b) 0) (omega (arith, e))
 
 -- ---- a tape and a list: the length first, then a row of tests
 
 module _ (l : Verdict) (f : ℕ → Verdict) (k : ℕ) {v : Verdict} (is : v ≡ l) where
-  -- where the tests before i are known to be fine
-  row-from : (i : ℕ) → i ≤ k → ((j : ℕ) → j < i → f j ≡ verdict.Fine) → v ≡ verdict.Fine
-      → first f i (k - i) ≡ orElse l (first f 0 k)
-  row-from i some fine e = first-from f i k some fine ∙ rw (sym is ∙ e)
+  row-start : v ≡ verdict.Fine → first f 0 (k - 0) ≡ orElse l (first f 0 k)
+  row-start e = let all : k - 0 ≡ k = omega arith in rw (all, sym is ∙ e)
 
 module _ (codes n : ℕ) (s : List ℕ) {v : Verdict} (is : v ≡ lengthVerdict 512 1 mostBlocks s) where
   pub tape-length-refused : {r : Refusal} → v ≡ verdict.Refused r → v ≡ tapeVerdict codes n s
@@ -136,22 +130,17 @@ module _ (codes n : ℕ) (s : List ℕ) {v : Verdict} (is : v ≡ lengthVerdict 
   -- before the first block
   pub blocks-start : v ≡ verdict.Fine → first (blockVerdict codes n s) 0 (length s / 512 - 0) ≡ tapeVerdict codes n s
   unfolding tapeVerdict
-  blocks-start e =
-      row-from _ (blockVerdict codes n s) (length s / 512) is 0 (omega arith) (λ j h. absurd (omega arith)) e
+  blocks-start e = row-start _ (blockVerdict codes n s) (length s / 512) is e
 
 module _ (codes n : ℕ) (s : List ℕ) {v : Verdict} (is : v ≡ lengthVerdict 8 1 mostEvents s) where
   pub list-length-refused : {r : Refusal} → v ≡ verdict.Refused r → v ≡ listVerdict codes n s
   unfolding listVerdict
   list-length-refused e = refused-first _ is e
 
-  -- before the first event that is not known to fit
-  pub events-from : (known : ℕ) → known ≤ length s / 8
-      → ((k : ℕ) → k < known → eventFits codes n s (0 + 8 * k) ≡ true) → v ≡ verdict.Fine
-      → first (eventTest codes n s) known (length s / 8 - known) ≡ listVerdict codes n s
+  -- before the first event
+  pub events-start : v ≡ verdict.Fine → first (eventTest codes n s) 0 (length s / 8 - 0) ≡ listVerdict codes n s
   unfolding listVerdict
-  events-from known some fit e =
-      let at : (k : ℕ) → 8 * k ≡ 0 + 8 * k = λ k. omega arith in
-      row-from _ (eventTest codes n s) (length s / 8) is known some (λ k h. rw (at k, fit k h)) e
+  events-start e = row-start _ (eventTest codes n s) (length s / 8) is e
 
 -- ---- how many events a tape has
 

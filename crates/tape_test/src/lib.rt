@@ -3,17 +3,14 @@
 use checksum::check_of;
 use event::Event;
 use little_endian::number_at;
-use little_endian::wide;
 use little_endian::word_at;
 use machine::Refusal;
 use machine::Verdict;
 use span::is_clear;
 ghost use mathlib.Core.Path.{_≡_};
-ghost use mathlib.Core.Bool.{true};
-ghost use Prim.Native.Nat.{ℕ, _+_, _*_, _≤_, _<_};
+ghost use Prim.Native.Nat.{_+_, _*_, _≤_, _<_};
 ghost use lib.ListN.{length};
 ghost use Rattle.machine.specs.Refusals as rule;
-ghost use Rattle.machine.specs.Refusals.{eventFits};
 ghost use Rattle.tape_test.specs.Accepted.{headVerdict, eventsOn, Accepted};
 
 // Internal: the length of a list or a tape: whole units, at least and at most so many; refused with 6.
@@ -52,36 +49,8 @@ fn head_verdict(tape: &[u8], b: usize) -> Verdict
     }
 }
 
-// How many of so many events from `at` on are sure to fit: all, or none. They are tested all together: what is or-ed in
-// `any` stays below `limit` only if each process is below n, each code is one and the two bytes are zero, and `mixed`
-// stays 0 only if no message stands beside a code other than 0. Both are 32 bits wide, so that four events go at once:
-// 1.3 instructions less for an event of a run.
-fn fitting(bytes: &[u8], at: usize, count: usize, n: usize, codes: u8) -> usize
-    requires { ⌜ at + 8 * count ≤ length (now bytes) ⌝ }
-    ensures { λ r. ⌜ (r ≤ count) × ((k : ℕ) → k < r → eventFits codes n (now (bytes .entry)) (at + 8 * k) ≡ true) ⌝ }
-{
-    let limit = 256 * wide(codes);
-    let gap = if n < limit { limit - n } else { 0 } as u32;
-    let mut any: u32 = 0;
-    let mut mixed: u32 = 0;
-    for k in 0..count {
-        let front = number_at(bytes, at + 8 * k);
-        let message = number_at(bytes, at + 8 * k + 4);
-        let process = front % 256;
-        let coded = front - process;
-        let beside = if coded == 0 { 0 } else { message };
-        any = any | coded | (process + gap);
-        mixed = mixed | beside;
-    }
-    if (any < limit as u32) & (mixed == 0) {
-        count
-    } else {
-        0
-    }
-}
-
-// Internal: a tape's verdict, for n processes and so many codes. The slots that are not sure to fit are searched for
-// the first event that is refused, which leaves both loops.
+// Internal: a tape's verdict, for n processes and so many codes: block by block its head, its events slot by slot, and
+// its unused slots. The first that is refused leaves both loops.
 pub fn tape_verdict(tape: &[u8], n: usize, codes: u8) -> Verdict
     ensures { λ r. ⌜ r ≡ rule.tapeVerdict codes n (now (tape .entry)) ⌝ }
 {
@@ -97,7 +66,7 @@ pub fn tape_verdict(tape: &[u8], n: usize, codes: u8) -> Verdict
         };
         let count = word_at(tape, 512 * b + 2) as usize;
         let slots = 512 * b + 8;
-        for j in fitting(tape, slots, count, n, codes)..count {
+        for j in 0..count {
             if !Event::fits(tape, slots + 8 * j, n, codes) {
                 verdict = Verdict::Refused(Refusal::Event(63 * b + j));
                 break 'blocks;
@@ -120,7 +89,7 @@ pub fn list_verdict(list: &[u8], n: usize, codes: u8) -> Verdict
         return verdict;
     };
     let events = list.len() / 8;
-    for k in fitting(list, 0, events, n, codes)..events {
+    for k in 0..events {
         if !Event::fits(list, 8 * k, n, codes) {
             return Verdict::Refused(Refusal::Event(k));
         }

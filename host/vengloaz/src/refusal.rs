@@ -26,8 +26,8 @@ pub enum Refusal {
     RingSize,
     /// 2: home not below N.
     Home,
-    /// 3: the image buffer is under 16 bytes, or under 16 + 8N for the N of 2 to 64 in its byte 0. Any
-    /// other byte 0 is [`Refusal::ImageUnsound`], whatever the length.
+    /// 3: the image buffer is under 16 bytes, or under 16 + 8N for the N of 2 to 64 in its byte 0. From
+    /// 16 bytes on any other byte 0 is [`Refusal::ImageUnsound`].
     ImageShort,
     /// 4: the image isn't sound.
     ImageUnsound,

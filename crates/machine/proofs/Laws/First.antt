@@ -1,10 +1,9 @@
 -- The first refusal of a row of tests: the row is fine exactly when each test is, and a loop that counts up may leave
 -- out those that were.
 use Prim.Native.Nat.{ℕ, zero, suc, _+_, _-_, _≤_, _<_}
-use mathlib.Core.Path.{_≡_, refl, sym, ap, ap₂, _∙_}
+use mathlib.Core.Path.{_≡_, refl, ap, ap₂, _∙_}
 use mathlib.Core.Bool.{Bool, true, false}
 use native.Mathlib.Omega.{arith}
-use native.Mathlib.Numerals.{add-one}
 use lib.Dec.{eqb}
 use borrow.Author.Tests.{eqb-true, eqb-false}
 use Rattle.machine.specs.declared.Refusal.{Refusal}
@@ -72,12 +71,3 @@ module _ (f : ℕ → Verdict) (i n : ℕ) (h : i < n) where
 pub first-end : (f : ℕ → Verdict) (i n : ℕ) → n ≤ i → first f i (n - i) ≡ Fine
 unfolding first
 first-end f i n h = let e : n - i ≡ zero = omega arith in rw e
-
--- a loop that starts where the tests before are known to be fine
-pub first-from : (f : ℕ → Verdict) (i n : ℕ) → i ≤ n → ((k : ℕ) → k < i → f k ≡ Fine)
-    → first f i (n - i) ≡ first f 0 n
-first-from f zero n h fine = ap (first f 0) (omega arith)
-first-from f (suc i) n h fine =
-    rw (← add-one i)
-    (sym (first-on f i n (omega arith) (fine i (omega arith)))
-    ∙ first-from f i n (omega arith) (λ k below. fine k (omega arith)))

@@ -7,7 +7,7 @@ use Rattle.machine.specs.declared.Refusal.the-variants as refusal
 use Rattle.machine.specs.Refusals.{first, listVerdict}
 use Rattle.machine.proofs.Laws.First.{first-on, first-found, first-end}
 use Rattle.tape_test.proofs.Blocks.{eventTest}
-use Rattle.tape_test.proofs.Ways.{list-length-refused, events-from, test-refused, test-fine}
+use Rattle.tape_test.proofs.Ways.{list-length-refused, events-start, test-refused, test-fine}
 use Rattle.tape_test.proofs.list_verdict.Statement.{statement}
 use Rattle.tape_test.proofs.list_verdict.Tie as tie
 
@@ -26,18 +26,14 @@ returns c =
 
 loop-holds : tie.Need-loop-holds Inv-loop μ-loop
 loop-holds c =
-    let d = c .before in
-    let a = d .before .before .before .before .args in
-    let known = c .fitting .ensures in (
-      known .0,
-      events-from (a .codes) (a .n) (a .list .now) (d .before .before .length-verdict .ensures) (c .fitting .result)
-          (known .0) (known .1) (d .enum-told .given .1),
-    )
+    let a = c .before .before .before .before .args in
+    let is = c .before .before .length-verdict .ensures in
+    (omega arith, events-start (a .codes) (a .n) (a .list .now) is (c .enum-told .given .1))
 
 returns-2 : tie.Need-returns-2 Inv-loop μ-loop
 returns-2 c =
     let l = c .before .before .before .loop in
-    let a = c .before .before .before .before .before .before .before .before .before .args in
+    let a = c .before .before .before .before .before .before .before .before .args in
     let row = eventTest (a .codes) (a .n) (a .list .now) in
     let event = test-refused (refusal.Event (l .k)) (c .before .fits2 .ensures) (not-true _ (c .if1 .taken)) in
     sym (first-found row (l .k) _ (omega arith) event) ∙ l .inv .1
@@ -45,7 +41,7 @@ returns-2 c =
 loop-again : tie.Need-loop-again Inv-loop μ-loop
 loop-again c =
     let l = c .before .before .before .loop in
-    let a = c .before .before .before .before .before .before .before .before .before .args in
+    let a = c .before .before .before .before .before .before .before .before .args in
     let row = eventTest (a .codes) (a .n) (a .list .now) in
     let event = test-fine (refusal.Event (l .k)) (c .before .fits2 .ensures) (not-false _ (c .if1 .left)) in
     (omega arith, sym (first-on row (l .k) _ (omega arith) event) ∙ l .inv .1)
@@ -53,13 +49,13 @@ loop-again c =
 returns-3 : tie.Need-returns-3 Inv-loop μ-loop
 returns-3 c =
     let l = c .before .loop in
-    let a = c .before .before .before .before .before .before .before .args in
+    let a = c .before .before .before .before .before .before .args in
     let row = eventTest (a .codes) (a .n) (a .list .now) in
-    c .before .before .before .enum-told .given .1 ∙ sym (first-end row (l .k) _ (omega arith)) ∙ l .inv .1
+    c .before .before .enum-told .given .1 ∙ sym (first-end row (l .k) _ (omega arith)) ∙ l .inv .1
 
 pub list-verdict-spec : {M : Type 1} → statement M
 list-verdict-spec =
     tie.close
     (tie.spec Inv-loop μ-loop (λ c. omega arith) (λ c κs. omega arith) (λ c. omega arith) (λ c. omega arith) returns
-    (λ c κs. omega arith) loop-holds (λ c. omega arith) (λ c κs. omega arith) returns-2 (λ c. omega arith)
+    loop-holds (λ c. omega arith) (λ c κs. omega arith) returns-2 (λ c. omega arith)
     (λ c. omega arith) loop-again returns-3)

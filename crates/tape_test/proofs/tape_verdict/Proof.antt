@@ -12,7 +12,7 @@ use Rattle.machine.specs.Refusals.{first, blockVerdict, usedVerdict, tapeVerdic
 use Rattle.machine.proofs.Laws.First.{first-on, first-found, first-end}
 use Rattle.tape_test.proofs.Blocks.{slotTest}
 use Rattle.tape_test.proofs.Ways.{head-refused, head-count, used-refused, unused-refused, slots-fine}
-use Rattle.tape_test.proofs.Ways.{test-refused, test-fine, slots-from, tape-length-refused, blocks-start}
+use Rattle.tape_test.proofs.Ways.{test-refused, test-fine, slots-start, tape-length-refused, blocks-start}
 use Rattle.tape_test.proofs.tape_verdict.Statement.{statement}
 use Rattle.tape_test.proofs.tape_verdict.Tie as tie
 
@@ -62,35 +62,30 @@ blocks2-holds c =
     let is = c .enum-told .given .1 in
     (omega arith, is, blocks-start (a .codes) (a .n) (a .tape .now) (c .before .before .length-verdict .ensures) is)
 
-fitting-requires : tie.Need-fitting-requires Inv-loop μ-loop Inv-blocks2 μ-blocks2
-fitting-requires c κs = omega (arith, few c)
-
 loop-holds : tie.Need-loop-holds Inv-loop μ-loop Inv-blocks2 μ-blocks2
 loop-holds c =
-    let k = c .before in
-    let a = k .before .before .before .before .before .before .before .before .before .before .args in
-    let o = k .before .before .before .before .before .blocks2 in
-    let known = c .fitting .ensures in
-    (known .0, o .inv .1, slots-from (a .codes) (a .n) (a .tape .now) (o .b) (counts k) (known .0) (known .1))
+    let a = c .before .before .before .before .before .before .before .before .before .before .args in
+    let o = c .before .before .before .before .before .blocks2 in
+    (omega arith, o .inv .1, slots-start (a .codes) (a .n) (a .tape .now) (o .b) (counts c))
 
 mul-fits : tie.Need-mul-fits Inv-loop μ-loop Inv-blocks2 μ-blocks2
-mul-fits c = omega (arith, few (c .before .before .before))
+mul-fits c = omega (arith, few (c .before .before))
 
 add-fits : tie.Need-add-fits Inv-loop μ-loop Inv-blocks2 μ-blocks2
-add-fits c = omega (arith, few (c .before .before .before))
+add-fits c = omega (arith, few (c .before .before))
 
 fits-requires : tie.Need-fits-requires Inv-loop μ-loop Inv-blocks2 μ-blocks2
-fits-requires c κs = omega (arith, few (c .before .before .before))
+fits-requires c κs = omega (arith, few (c .before .before))
 
 mul-t20 : tie.Need-mul-t20 Inv-loop μ-loop Inv-blocks2 μ-blocks2
-mul-t20 c = omega (arith, few (c .before .before .before .before .before))
+mul-t20 c = omega (arith, few (c .before .before .before .before))
 
 add-t21 : tie.Need-add-t21 Inv-loop μ-loop Inv-blocks2 μ-blocks2
-add-t21 c = omega (arith, few (c .before .before .before .before .before))
+add-t21 c = omega (arith, few (c .before .before .before .before))
 
 loop-again : tie.Need-loop-again Inv-loop μ-loop Inv-blocks2 μ-blocks2
 loop-again c =
-    let k = c .before .before .before .before .before in
+    let k = c .before .before .before .before in
     let a = k .before .before .before .before .before .before .before .before .before .before .args in
     let o = k .before .before .before .before .before .blocks2 in
     let l = c .before .before .before .loop in
@@ -100,23 +95,23 @@ loop-again c =
     (omega arith, l .inv .1, sym (first-on row (l .j) _ (omega arith) slot) ∙ l .inv .2)
 
 mul-is-clear : tie.Need-mul-is-clear Inv-loop μ-loop Inv-blocks2 μ-blocks2
-mul-is-clear c = omega (arith, few (c .before .before .before))
+mul-is-clear c = omega (arith, few (c .before .before))
 
 add-is-clear : tie.Need-add-is-clear Inv-loop μ-loop Inv-blocks2 μ-blocks2
-add-is-clear c = omega (arith, few (c .before .before .before))
+add-is-clear c = omega (arith, few (c .before .before))
 
 sub-is-clear : tie.Need-sub-is-clear Inv-loop μ-loop Inv-blocks2 μ-blocks2
-sub-is-clear c = omega (arith, few (c .before .before .before))
+sub-is-clear c = omega (arith, few (c .before .before))
 
 mul-is-clear-2 : tie.Need-mul-is-clear-2 Inv-loop μ-loop Inv-blocks2 μ-blocks2
-mul-is-clear-2 c = omega (arith, few (c .before .before .before))
+mul-is-clear-2 c = omega (arith, few (c .before .before))
 
 is-clear-requires : tie.Need-is-clear-requires Inv-loop μ-loop Inv-blocks2 μ-blocks2
-is-clear-requires c κs = omega (arith, few (c .before .before .before))
+is-clear-requires c κs = omega (arith, few (c .before .before))
 
 blocks2-again : tie.Need-blocks2-again Inv-loop μ-loop Inv-blocks2 μ-blocks2
 blocks2-again c =
-    let k = c .before .before .before .before .before in
+    let k = c .before .before .before .before in
     let a = k .before .before .before .before .before .before .before .before .before .before .args in
     let o = k .before .before .before .before .before .blocks2 in
     let l = c .before .before .before .loop in
@@ -148,7 +143,7 @@ returns-3 c =
 
 returns-4 : tie.Need-returns-4 Inv-loop μ-loop Inv-blocks2 μ-blocks2
 returns-4 c =
-    let k = c .before .before .before .before .before in
+    let k = c .before .before .before .before in
     let a = k .before .before .before .before .before .before .before .before .before .before .args in
     let o = k .before .before .before .before .before .blocks2 in
     let l = c .before .before .before .loop in
@@ -162,7 +157,7 @@ returns-4 c =
 
 returns-5 : tie.Need-returns-5 Inv-loop μ-loop Inv-blocks2 μ-blocks2
 returns-5 c =
-    let k = c .before .before .before .before .before in
+    let k = c .before .before .before .before in
     let a = k .before .before .before .before .before .before .before .before .before .before .args in
     let o = k .before .before .before .before .before .blocks2 in
     let l = c .before .before .before .loop in
@@ -179,6 +174,6 @@ tape-verdict-spec =
     (tie.spec Inv-loop μ-loop Inv-blocks2 μ-blocks2 (λ c κs. omega arith) (λ c. omega arith) (λ c. omega arith)
     returns blocks2-holds (λ c κs. omega arith) (λ c. omega arith) (λ c. omega arith) (λ c. omega arith)
     (λ c. omega arith) (λ c κs. omega arith) (λ c. omega arith) (λ c. omega arith) (λ c. omega arith)
-    fitting-requires loop-holds mul-fits add-fits fits-requires mul-t20 add-t21 (λ c. omega arith) (λ c. omega arith)
+    loop-holds mul-fits add-fits fits-requires mul-t20 add-t21 (λ c. omega arith) (λ c. omega arith)
     loop-again mul-is-clear add-is-clear sub-is-clear mul-is-clear-2 is-clear-requires (λ c. omega arith)
     (λ c. omega arith) blocks2-again returns-2 returns-3 returns-4 returns-5)
