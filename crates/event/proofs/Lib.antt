@@ -1,5 +1,6 @@
 -- Laws that the functions of this crate, and those above it, cite.
 pub mod Bytes
+pub mod Whole
 pub mod Codes
 pub mod Possible
 pub mod Next

@@ -1,8 +1,10 @@
 // An event as a struct by value: read from eight bytes, tested, and applied to the header and its process's record.
 // What it does comes back by value too, the only place where an event's effect is decided.
 // Document 01, "The eight events".
+use little_endian::eight_at;
 use little_endian::number_at;
 use little_endian::wide;
+use little_endian::wide64;
 use machine::Outcome;
 use machine::Refusal;
 use machine::Verdict;
@@ -204,15 +206,16 @@ impl Event {
     // How many codes there are.
     pub const CODES: u8 = 8;
 
-    // Internal: whether an event for n processes stands in the eight bytes from `at` on.
+    // Internal: whether an event for n processes stands in the eight bytes from `at` on. They are tested as one number:
+    // beside the process nothing counts where code and zeros are 0, since any message may follow, and else all does.
+    // Four instructions less for an event of a run than field by field.
     pub fn fits(bytes: &[u8], at: usize, n: usize, codes: u8) -> bool
         requires { ⌜ at + 8 ≤ length (now bytes) ⌝ }
         ensures { λ r. ⌜ r ≡ eventFits codes n (now (bytes .entry)) at ⌝ }
     {
-        let code = bytes[at + 1];
-        let spare = (bytes[at + 2] == 0) & (bytes[at + 3] == 0);
-        let no_message = number_at(bytes, at + 4) == 0;
-        (wide(bytes[at]) < n) & (code < codes) & spare & ((code == 0) | no_message)
+        let word = eight_at(bytes, at);
+        let beside = if word % 4294967296 < 256 { 0 } else { word };
+        (word % 256 < n as u64) & (beside < 256 * wide64(codes))
     }
 
     // Internal: the event whose fields stand in the eight bytes from `at` on.
