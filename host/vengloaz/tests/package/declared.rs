@@ -113,7 +113,8 @@ fn c_and_rust_declare_what_the_archives_export() {
     assert_eq!(in_rust(RAW), all);
 }
 
-/// A declaration with a fault is found: a slice that is written passed as read, parameters exchanged, a function gone.
+/// A declaration with a fault is found: a slice that is only read passed as written, parameters exchanged, one left
+/// out, a function by another name.
 #[test]
 fn another_declaration_is_found() {
     let faults = [

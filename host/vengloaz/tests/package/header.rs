@@ -79,11 +79,11 @@ fn every_number_is_that_of_the_calls() {
 fn sizes(numbers: &Numbers) {
     let (least, most) = (numbers.of("LEAST") as u64, numbers.of("MOST") as u64);
     for n in 0..=100 {
-        match fresh(n, 0) {
-            Ok(image) => assert_eq!(image.len(), numbers.of("HEADER_SIZE") + n as usize * numbers.of("PROCESS_SIZE")),
-            Err(_) => assert!(n < least || n > most),
+        let image = fresh(n, 0);
+        assert_eq!(image.is_ok(), (least..=most).contains(&n));
+        if let Ok(image) = image {
+            assert_eq!(image.len(), numbers.of("HEADER_SIZE") + n as usize * numbers.of("PROCESS_SIZE"));
         }
-        assert_eq!(fresh(n, 0).is_ok(), (least..=most).contains(&n));
     }
 
     let event = numbers.of("EVENT_SIZE");
