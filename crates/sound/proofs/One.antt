@@ -3,25 +3,15 @@ use Prim.Native.Nat.{ℕ, zero, suc, _+_, _*_}
 use mathlib.Core.Path.{_≡_, refl, sym, ap, _∙_}
 use mathlib.Core.Bool.{Bool, true, false, _&&_, _||_}
 use mathlib.Core.List.{List}
-use mathlib.Core.Logic.{_⊎_, inl, inr, ⊎-elim}
 use native.Mathlib.Omega.{arith}
 use lib.Dec.{eqb, ltb}
 use borrow.Author.Tests.{eqb-true, eq-eqb, lt-ltb}
 use Rattle.machine.specs.Bytes.{bit}
 use Rattle.machine.specs.Fields.{Status}
 use Rattle.machine.specs.Sound.{places}
-use Rattle.machine.proofs.Laws.Lists.{and-first, and-second, and-both}
+use Rattle.machine.proofs.Laws.Lists.{and-first, and-second, and-both, same-test, either-way}
 use Rattle.sound.specs.declared.Walk.{Walk}
 use Rattle.sound.specs.Walk.{wrongIn, Flags, recordsFrom, fitFrom, Walked}
-
-pub same-test : (a b : Bool) → (a ≡ true → b ≡ true) → (b ≡ true → a ≡ true) → a ≡ b
-same-test true b f g = sym (f refl)
-same-test false true f g = g refl
-same-test false false f g = refl
-
-pub one-of : (a b : Bool) → a || b ≡ true → (a ≡ true) ⊎ (b ≡ true)
-one-of true b e = inl refl
-one-of false b e = inr e
 
 none-of : (n : ℕ) → bit (ltb 0 n) ≡ 0 → n ≡ 0
 none-of zero e = refl
@@ -42,11 +32,11 @@ only-one {count} {left} {flags} so so-one =
     let any = so .any in
     let sum = so .sum in
     let same = eqb-true flags left (and-second (eqb left 256 || eqb left 512) (eqb flags left) so-one) in
-    ⊎-elim (λ x. omega (arith, eqb-true left 256 x))
+    either-way (eqb left 256) (eqb left 512) (λ x. omega (arith, eqb-true left 256 x))
     (λ x.
     let alone = arriving-alone (ltb 0 (so .h)) (ltb 0 (so .a)) (sym any ∙ eqb-true left 512 x) in
     omega (arith, eqb-true left 512 x, none-of (so .h) alone))
-    (one-of (eqb left 256) (eqb left 512) (and-first (eqb left 256 || eqb left 512) (eqb flags left) so-one))
+    (and-first (eqb left 256 || eqb left 512) (eqb flags left) so-one)
 
 one-left : (h a : ℕ) → h + a ≡ 1 → oneFlag (256 * bit (ltb 0 h) + 512 * bit (ltb 0 a)) (256 * h + 512 * a) ≡ true
 one-left zero a e = let one : a ≡ 1 = omega arith in rw one
@@ -61,8 +51,8 @@ one-place s status n {w} so =
     let a = eqb (w .left) 256 in
     let b = eqb (w .left) 512 in
     let none : wrongIn (w .left) ≡ 0 =
-    ⊎-elim (λ x. rw (eqb-true (w .left) 256 x)) (λ x. rw (eqb-true (w .left) 512 x))
-    (one-of a b (and-first (a || b) (eqb (w .flags) (w .left)) so-one)) in
+    either-way a b (λ x. rw (eqb-true (w .left) 256 x)) (λ x. rw (eqb-true (w .left) 512 x))
+    (and-first (a || b) (eqb (w .flags) (w .left)) so-one) in
     let fit = so .clean none in
     and-both _ _ fit (eq-eqb _ _ (only-one (so .found fit) so-one)))
     (λ so-one.

@@ -4,7 +4,7 @@ use Prim.Native.Nat.{ℕ, _+_, _*_, _/_, _%_, _^_, _≤_, _<_}
 use mathlib.Core.Path.{_≡_, refl, sym, ap, _∙_}
 use mathlib.Core.Bool.{Bool, true, false, not, _&&_, _||_, true≢false}
 use mathlib.Core.List.{List}
-use mathlib.Core.Logic.{_⊎_, inl, inr, ⊎-elim}
+use mathlib.Core.Logic.{_⊎_, inl, inr}
 use native.Mathlib.Omega.{arith}
 use native.Mathlib.Nat.{le-trans}
 use lib.ListN.{getD}
@@ -19,13 +19,13 @@ use Rattle.machine.specs.Fields.{Status, full, empty}
 use Rattle.machine.specs.Image.{envelopeIn, processesIn, sizeIn, stateIn}
 use Rattle.machine.specs.Sound.{headerFits, recordsFit, stagesFit, places, markedSet, restFits, sound, ones64}
 use Rattle.machine.proofs.Laws.Bytes.{lt-or-ge, number-8, number-more, number-lt, zeros-number}
-use Rattle.machine.proofs.Laws.Lists.{and-first, and-second, and-both, alike}
+use Rattle.machine.proofs.Laws.Lists.{and-first, and-second, and-both, same-test, either-way, alike}
 use Rattle.machine.proofs.Soundness.Sound.{sound-facts}
 use Rattle.machine.proofs.Laws.Walk.{length-processes, marked-lt, ones-64}
 use Rattle.sound.specs.declared.Walk.{Walk}
 use Rattle.sound.specs.Walk.{recordsFrom, fitFrom, Walked, countsIn}
 use Rattle.sound.proofs.Masks.{two-parts}
-use Rattle.sound.proofs.One.{same-test, one-of, oneFlag, one-place}
+use Rattle.sound.proofs.One.{oneFlag, one-place}
 use Rattle.sound.proofs.Fits.{fit-whole}
 
 -- ---- the header's two words
@@ -143,12 +143,11 @@ module _ (s : List ℕ) (small : Bytes s) where
         record {
           mask = masked ∙ rw (a, b);
           message =
-              ⊎-elim
+              either-way (eqb (getD s 1 0) 1) (zeros s 8 4)
               (λ is.
               let one = eqb-true (getD s 1 0) 1 is in
               omega (arith, one, status-bit, second-is, spare, number-lt s 8 small))
-              (λ none. omega (arith, second-is, spare, nothing 8 4 none))
-              (one-of (eqb (getD s 1 0) 1) (zeros s 8 4) (h .message));
+              (λ none. omega (arith, second-is, spare, nothing 8 4 none)) (h .message);
           one = one-place s status n walked ∙ rw (fit, size) (eq-eqb _ 1 (facts .rest .one-place));
           counts = counts-are ∙ rw (size, full-count, empty-count, counts-above, unnamed) (omega arith);
         }

@@ -35,11 +35,12 @@ fn compared(input: &str, ledger: &str) -> Result<bool, Box<dyn Error>> {
     let input = contents(input)?;
     let core = contents(ledger)?;
     let reference = reference(&input)?;
-    match first_difference(&reference, &core) {
+    let difference = first_difference(&reference, &core);
+    match &difference {
         None => println!("the same, {} records", reference.len() / 12),
         Some(difference) => println!("{difference}"),
     }
-    Ok(reference == core)
+    Ok(difference.is_none())
 }
 
 /// The reference's ledger of an input.

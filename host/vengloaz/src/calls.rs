@@ -83,7 +83,7 @@ pub fn step(image: &mut [u8], event: Event) -> Result<Outcome, Refusal> {
 /// let mut image = fresh(2, 0)?;
 /// let mut ledger = vec![0; 12 * events.len()];
 /// let counts = run(&mut image, &tape, &mut ledger)?;
-/// assert_eq!(counts.to_string(), "puts 1 gets 1 fills 1 takes 1 sent 1 got 1 idle 0");
+/// assert_eq!((counts.puts, counts.gets, counts.idle, counts.records), (1, 1, 0, 4));
 ///
 /// let lines: Vec<Record> = records(&ledger[..counts.ledger_bytes()]).collect();
 /// assert_eq!(lines[0], Record { event: 7, process: 1, outcome: Outcome::Fill(7) });

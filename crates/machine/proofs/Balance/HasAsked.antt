@@ -19,10 +19,10 @@ use Rattle.machine.specs.Stages.{plain, told}
 use Rattle.machine.specs.Events.{ask, passFor, pass, markFor, mark, unmark, clear, wanted, leave, setMarkers}
 use Rattle.machine.specs.Events.{forward, ends, relay, wait, endPut}
 use Rattle.machine.specs.Events.{startPut, startGet, work, signal, receive, takeRequest, put, react}
-use Rattle.machine.proofs.Laws.Lists.{and-first, and-second, same-bool}
+use Rattle.machine.proofs.Laws.Lists.{and-first, and-second, either-way, same-bool}
 use Rattle.machine.proofs.Soundness.Ways.{pass-for-keeps, pass-keeps, by-test, moving, by-stage, every-code}
 use Rattle.machine.proofs.Soundness.Owed.{begun}
-use Rattle.machine.proofs.Soundness.Settled.{Fits, either-way, other-status, needs, had-at, waitsFor}
+use Rattle.machine.proofs.Soundness.Settled.{Fits, other-status, needs, had-at, waitsFor}
 use Rattle.machine.proofs.Balance.Pairs.{none-for, set-on, set-keeps}
 use Rattle.machine.proofs.Balance.Clauses.{HasAsked}
 use Rattle.machine.proofs.Balance.Stages.{at-stages, waits-same}

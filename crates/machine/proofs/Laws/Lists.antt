@@ -31,7 +31,18 @@ same-bool true false e = absurd (false≢true e)
 same-bool false true e = absurd (false≢true e)
 same-bool false false e = refl
 
--- ---- alternatives that fail, and one test that follows from another
+-- two tests that follow from each other are one
+pub same-test : (a b : Bool) → (a ≡ true → b ≡ true) → (b ≡ true → a ≡ true) → a ≡ b
+same-test true b to from = sym (to refl)
+same-test false true to from = from refl
+same-test false false to from = refl
+
+-- ---- alternatives that hold or fail, and one test that follows from another
+
+-- what follows from either side of an `or`
+pub either-way : {A : Type 0} (a b : Bool) → (a ≡ true → A) → (b ≡ true → A) → a || b ≡ true → A
+either-way true b one other e = one refl
+either-way false b one other e = other e
 
 pub or-first : (a b : Bool) → a || b ≡ false → a ≡ false
 or-first true b e = e

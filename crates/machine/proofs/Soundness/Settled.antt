@@ -18,7 +18,7 @@ use Rattle.machine.specs.Fields.{Status, full, empty, for, count, holdin
 use Rattle.machine.specs.Stages.{lastStage, plain, told, noted, withEmpty, withFull, markable}
 use Rattle.machine.specs.Sound.{stageFits}
 use Rattle.machine.specs.Events.{becomes, mark, ends}
-use Rattle.machine.proofs.Laws.Lists.{and-first, and-second, or-first, or-second, follow}
+use Rattle.machine.proofs.Laws.Lists.{and-first, and-second, or-first, or-second, either-way, follow}
 use Rattle.machine.proofs.Soundness.Sums.{flagsSet, marksFor}
 use Rattle.machine.proofs.Soundness.Owed.{Owed, begun, begun-owed, mark-owed}
 
@@ -45,11 +45,6 @@ pub record Settled (e : Envelope) (p : Process) (r : Reaction) : Type 0 where
       → count (r .envelope .marked) s + marksFor s p ≡ count (e .marked) s + marksFor s (r .process)
 
 -- ---- laws of tests
-
--- what follows from either side of an `or`
-pub either-way : {A : Type 0} (a b : Bool) → (a ≡ true → A) → (b ≡ true → A) → a || b ≡ true → A
-either-way true b one other e = one refl
-either-way false b one other e = other e
 
 -- the other of two statuses
 pub other-status : (a b : Status) → Bool·beq a b ≡ false → not a ≡ b
