@@ -1,6 +1,6 @@
 # make test: the gate. Layout and length of lines, then every listed crate proved from nothing with its must-fail edits
 # and programs, then the archives of the host library, made of what was proved, and the Rust packages over them: their
-# layout and lints, where cargo has fmt and clippy, and their tests; then the example in C, every sample through
+# layout and lints, where cargo has fmt and clippy, and their tests; then the examples in C, every sample through
 # ringrun, and rt ci's own closing line as the very last line, which is printed only if all of that passed.
 #
 # make check: the loop while editing. Layout, length of lines, and what has changed since it was last proved; no edits

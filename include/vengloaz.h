@@ -40,7 +40,7 @@ uint64_t ring_run(uint8_t *image, size_t image_length, const uint8_t *tape, size
 /* Whether no event of codes 2 to 7 is possible. Told: RING_WORD_STOPPED, 1 or 0. Refusals 3, 4; 10. */
 uint64_t ring_stopped(const uint8_t *image, size_t image_length, uint8_t *result, size_t result_length);
 
-/* ---- libring_tools.a: fresh ring, writer and reader */
+/* ---- libring_tools.a: fresh ring, writer, reader and load */
 
 /* Writes the fresh ring of n processes, with the envelope at process home, to the start of an image buffer, whose
  * further bytes are kept. Told: nothing. Refusals 1, 2; 3; 10. */
@@ -57,6 +57,12 @@ uint64_t ring_write(uint64_t n, const uint8_t *list, size_t list_length, uint8_t
 uint64_t ring_read(uint64_t n, const uint8_t *tape, size_t tape_length, uint8_t *output, size_t output_length,
                    uint8_t *result, size_t result_length);
 
+/* Writes the tape of a load to the start of an output, whose further bytes are kept: count events for n processes,
+ * drawn from a seed by Park and Miller's minimal standard generator, RING_TAPE_SIZE(count) bytes. Told:
+ * RING_WORD_FILLED, in bytes. Refusals 1; 11; 6; 10. */
+uint64_t ring_load(uint64_t n, uint64_t seed, uint64_t count, uint8_t *output, size_t output_length, uint8_t *result,
+                   size_t result_length);
+
 /* ---- what a function returns */
 
 enum ring_refusal {
@@ -66,11 +72,12 @@ enum ring_refusal {
     RING_REFUSED_SHORT = 3,    /* image under 16 bytes, or under 16 + 8n for the n of 2 to 64 in its byte 0 */
     RING_REFUSED_UNSOUND = 4,  /* image not sound, or of 16 bytes or more and its byte 0 not 2 to 64 */
     RING_REFUSED_EVENT = 5,    /* not an event of this ring; place: its number in list or tape, 0 for a single one */
-    RING_REFUSED_LENGTH = 6,   /* tape or list of a wrong length: none, not in whole blocks or events, too many */
+    RING_REFUSED_LENGTH = 6,   /* tape, list or load of a wrong length: none, not in whole blocks or events, too many */
     RING_REFUSED_CHECK = 7,    /* block check differs; place: the block's position on the tape, as for 8 and 9 */
     RING_REFUSED_BLOCK = 8,    /* block number or count differs */
     RING_REFUSED_UNUSED = 9,   /* unused slot not zero */
-    RING_REFUSED_OUTPUT = 10   /* output, ledger or result slice too short */
+    RING_REFUSED_OUTPUT = 10,  /* output, ledger or result slice too short */
+    RING_REFUSED_SEED = 11     /* a load's seed is 0 or above 2147483646 */
 };
 
 /* ---- the words of a result slice: word k is bytes 8k to 8k + 7 */
@@ -88,7 +95,7 @@ enum ring_word {
     RING_WORD_IDLE = 6,
     RING_WORD_RECORDS = 7,
     RING_WORD_STOPPED = 0,  /* of stopped: 1 or 0 */
-    RING_WORD_FILLED = 0    /* of writer and reader: bytes at the start of the output */
+    RING_WORD_FILLED = 0    /* of writer, reader and load: bytes at the start of the output */
 };
 
 /* Word k of a result slice. */
@@ -127,6 +134,14 @@ enum ring_size {
 };
 
 #define RING_IMAGE_SIZE(n) (RING_HEADER_SIZE + RING_PROCESS_SIZE * (n))
+#define RING_TAPE_SIZE(events) (RING_BLOCK_SIZE * (((events) + RING_BLOCK_EVENTS - 1) / RING_BLOCK_EVENTS))
+
+/* ---- the seeds of a load, whose codes are drawn from RING_WISH_PUT to RING_PUT_ACTS */
+
+enum ring_seed {
+    RING_LEAST_SEED = 1,
+    RING_MOST_SEED = 2147483646
+};
 
 /* ---- an image: the header's offsets, and the bits of its markers */
 

@@ -1,5 +1,5 @@
 -- Cases, computed but for two entries: the entries, each sentence of the events, every rule at its edge, each count in
--- its place, and what the suite's host is told.
+-- its place, what the suite's host is told, and loads.
 pub mod Computed
 pub mod Case
 pub mod Entries
@@ -8,3 +8,4 @@ pub mod Edges
 pub mod Boundaries
 pub mod Counts
 pub mod Host
+pub mod Loads

@@ -14,3 +14,4 @@ pub mod Alone
 pub mod Text
 pub mod Report
 pub mod Tapes
+pub mod Loads

@@ -1,5 +1,6 @@
--- Where a call is turned down: document 01's table, each row's condition exactly, its place, and the order of the
--- tests of one input. The order between a call's inputs stands in Answers.
+-- Where a call is turned down: document 01's table, and what document 02 adds to it; each row's condition exactly, its
+-- place, and the order of the tests of one input. The order between a call's inputs stands with the calls, in Answers
+-- and Load.
 use Prim.Native.Nat.{ℕ, zero, suc, _+_, _-_, _*_, _/_, _%_}
 use mathlib.Core.Bool.{Bool, true, false, _&&_, _||_}
 use mathlib.Core.List.{List}
@@ -27,6 +28,7 @@ numberOf (refusal.Check b) = 7
 numberOf (refusal.Block b) = 8
 numberOf (refusal.Unused b) = 9
 numberOf refusal.Output = 10
+numberOf refusal.Seed = 11
 
 -- where: 5 has the number of the event, 7 to 9 that of the block; the others have 0
 abbrev pub placeOf : Refusal → ℕ
@@ -40,6 +42,7 @@ placeOf (refusal.Check b) = b
 placeOf (refusal.Block b) = b
 placeOf (refusal.Unused b) = b
 placeOf refusal.Output = 0
+placeOf refusal.Seed = 0
 
 -- ---- tests in order
 
@@ -114,6 +117,10 @@ mostBlocks = 65536
 abbrev pub mostEvents : ℕ
 mostEvents = 63 * 65536
 
+-- the same of a number of events, where none are given
+unfoldable pub countVerdict : ℕ → Verdict
+countVerdict count = unless (leb 1 count && leb count mostEvents) refusal.Length
+
 -- a list: 6, then its events 5
 unfoldable pub listVerdict : ℕ → ℕ → List ℕ → Verdict
 listVerdict codes n s =
@@ -161,3 +168,9 @@ tapeVerdict codes n s =
 -- what is to be written fits
 unfoldable pub outputVerdict : ℕ → List ℕ → Verdict
 outputVerdict needed output = unless (leb needed (length output)) refusal.Output
+
+-- ---- 11: a seed
+
+-- 1 to 2,147,483,646
+unfoldable pub seedVerdict : ℕ → Verdict
+seedVerdict seed = unless (leb 1 seed && leb seed 2147483646) refusal.Seed

@@ -68,7 +68,7 @@ pub struct Counts {
     pub records: u64,
 }
 
-// The ten rows of the table of refusals, in its order; those with a place hold it.
+// The rows of the table of refusals, in the order of their numbers; those with a place hold it.
 pub enum Refusal {
     Size,
     Home,
@@ -80,6 +80,7 @@ pub enum Refusal {
     Block(usize),
     Unused(usize),
     Output,
+    Seed,
 }
 
 // What a test answers.

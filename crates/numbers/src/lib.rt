@@ -36,7 +36,7 @@ pub fn outcome_message(outcome: Outcome) -> u32
     }
 }
 
-// Internal: the table's number, 1 to 10.
+// Internal: the table's number.
 pub fn number_of(refusal: Refusal) -> usize
     ensures { λ r. ⌜ r ≡ numberOf refusal ⌝ }
 {
@@ -51,6 +51,7 @@ pub fn number_of(refusal: Refusal) -> usize
         Refusal::Block(_) => 8,
         Refusal::Unused(_) => 9,
         Refusal::Output => 10,
+        Refusal::Seed => 11,
     }
 }
 
@@ -69,6 +70,7 @@ pub fn place_of(refusal: Refusal) -> usize
         Refusal::Block(b) => b,
         Refusal::Unused(b) => b,
         Refusal::Output => 0,
+        Refusal::Seed => 0,
     }
 }
 

@@ -1,4 +1,4 @@
--- Each way through the three calls of this host is that way through the rule: with a short result slice the tests
+-- Each way through the calls of this host is that way through the rule: with a short result slice the tests
 -- alone, else the call's own answer, told. The answers of lower functions are variables here, each with the rule's
 -- value that it is known to be.
 use Prim.Native.Nat.{ℕ, _≤_, _<_}
@@ -11,8 +11,10 @@ use Rattle.machine.specs.declared.Verdict.{Verdict}
 use Rattle.machine.specs.Bytes.{splice}
 use Rattle.machine.specs.Tape.{listOf, tapeOf}
 use Rattle.machine.specs.Refusals.{numberOf, placeOf, orElse, codes, sizeVerdict, listVerdict, tapeVerdict}
-use Rattle.machine.specs.Answers.{Answer, freshVerdict, freshAnswer, freshImage, writeVerdict, writeAnswer, writeOutput}
-use Rattle.machine.specs.Answers.{readVerdict, readAnswer, readOutput}
+use Rattle.machine.specs.Refusals.{outputVerdict, seedVerdict, countVerdict}
+use Rattle.machine.specs.Answers.{Answer, answer, freshVerdict, freshAnswer, freshImage}
+use Rattle.machine.specs.Answers.{writeVerdict, writeAnswer, writeOutput, readVerdict, readAnswer, readOutput}
+use Rattle.machine.specs.Load.{loadTape, loadAnswer, loadOutput}
 use Rattle.machine.specs.Host.{wordsOf, resultBytes}
 use Rattle.image.specs.declared.FreshAnswer.{FreshAnswer}
 use Rattle.image.specs.declared.FreshAnswer.the-variants as fresh-answer
@@ -20,6 +22,7 @@ use Rattle.image.specs.Fresh as fresh
 use Rattle.tape.specs.declared.Filled.{Filled}
 use Rattle.tape.specs.declared.Filled.the-variants as filled-answer
 use Rattle.tape.specs.Filled as filled
+use Rattle.load.proofs.Ways.{in-turn}
 use Rattle.numbers.specs.Verdicts.{refusalOf}
 use Rattle.numbers.proofs.Verdicts.{output-unmeasured}
 use Rattle.result_slice.proofs.Words.{told-in-ten}
@@ -36,23 +39,40 @@ module _ (result : List ℕ) (short : length result < 80) (n : ℕ) where
       short-left result short image (freshImage n home image) (freshVerdict n home image) _
       (number ∙ ap (λ v. numberOf (refusalOf v)) is)
 
+  -- a call that fills an output: the verdict of its inputs is enough
+  filled-short : (first second : Verdict) (needed : ℕ) (output done values : List ℕ) {m : ℕ} {v : Verdict}
+      → v ≡ orElse first second
+      → m ≡ numberOf (refusalOf v)
+      → Leaves (answer (orElse first (orElse second (outputVerdict needed output))) values) result output done m output
+      result
+  filled-short first second needed output done values is number =
+      short-left result short output done (orElse first (orElse second (outputVerdict needed output))) values
+      (number ∙ ap (λ v. numberOf (refusalOf v)) is ∙ ap numberOf (output-unmeasured first second needed output))
+
   pub write-short : (list output : List ℕ) {m : ℕ} {v : Verdict} → v ≡ orElse (sizeVerdict n) (listVerdict codes n list)
       → m ≡ numberOf (refusalOf v)
       → Leaves (writeAnswer n list output) result output (writeOutput n list output) m output result
   unfolding writeAnswer writeVerdict
-  write-short list output is number =
-      let unmeasured = output-unmeasured (sizeVerdict n) (listVerdict codes n list) (length (tapeOf list)) output in
-      short-left result short output (writeOutput n list output) (writeVerdict n list output) _
-      (number ∙ ap (λ v. numberOf (refusalOf v)) is ∙ ap numberOf unmeasured)
+  write-short list output =
+      filled-short (sizeVerdict n) (listVerdict codes n list) (length (tapeOf list)) output (writeOutput n list output)
+      _
 
   pub read-short : (tape output : List ℕ) {m : ℕ} {v : Verdict} → v ≡ orElse (sizeVerdict n) (tapeVerdict codes n tape)
       → m ≡ numberOf (refusalOf v)
       → Leaves (readAnswer n tape output) result output (readOutput n tape output) m output result
   unfolding readAnswer readVerdict
-  read-short tape output is number =
-      let unmeasured = output-unmeasured (sizeVerdict n) (tapeVerdict codes n tape) (length (listOf tape)) output in
-      short-left result short output (readOutput n tape output) (readVerdict n tape output) _
-      (number ∙ ap (λ v. numberOf (refusalOf v)) is ∙ ap numberOf unmeasured)
+  read-short tape output =
+      filled-short (sizeVerdict n) (tapeVerdict codes n tape) (length (listOf tape)) output (readOutput n tape output) _
+
+  pub load-short : (seed count : ℕ) (output : List ℕ) {m : ℕ} {v : Verdict}
+      → v ≡ orElse (sizeVerdict n) (orElse (seedVerdict seed) (countVerdict count))
+      → m ≡ numberOf (refusalOf v)
+      → Leaves (loadAnswer n seed count output) result output (loadOutput n seed count output) m output result
+  unfolding loadAnswer
+  load-short seed count output =
+      rw (in-turn n seed count output)
+      (filled-short (sizeVerdict n) (orElse (seedVerdict seed) (countVerdict count)) (length (loadTape n seed count))
+      output (loadOutput n seed count output) _)
 
 -- ---- at least 80 bytes
 
@@ -74,7 +94,7 @@ module _ (result : List ℕ) (room : 80 ≤ length result) (before : List ℕ) {
         done-left result room before left [] (sym (ap fresh.inNumbers is) ∙ says)
         (told-in-ten result [] (lit≤ tt) wrote)
 
-  -- writer and reader
+  -- writer, reader and load
   module _ {f : Filled} (says : filled.inNumbers f ≡ a) where
     pub filled-refused : {m : ℕ} {u : List ℕ} {q r : Refusal} → f ≡ filled-answer.Refused q → r ≡ filled.refusalOf f
         → m ≡ numberOf r

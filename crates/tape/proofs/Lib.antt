@@ -1,5 +1,4 @@
 -- What holds of tapes, and the laws that the functions of this crate cite.
-pub mod Sizes
 pub mod Writer
 pub mod Reader
 pub mod Parts

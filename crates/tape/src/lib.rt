@@ -4,14 +4,13 @@ use image::Ring;
 use machine::Refusal;
 use machine::Verdict;
 use numbers::refusal_of;
+use pack::blocks_for;
 use pack::pack;
 use pack::unpack;
 use tape_test::event_count;
 use tape_test::list_verdict;
 use tape_test::tape_verdict;
 ghost use mathlib.Core.Path.{_≡_};
-ghost use Prim.Native.Nat.{_≤_};
-ghost use Rattle.machine.specs.Tape.{blocksFor};
 ghost use Rattle.machine.specs.Refusals.{orElse, codes, sizeVerdict, listVerdict, tapeVerdict};
 ghost use Rattle.machine.specs.Answers.{writeAnswer, writeOutput, readAnswer, readOutput};
 ghost use Rattle.tape.specs.Filled.{inNumbers, refusalOf};
@@ -32,14 +31,6 @@ impl Filled {
             _ => Refusal::Output,
         }
     }
-}
-
-// How many blocks so many events take.
-fn blocks_for(events: usize) -> usize
-    requires { ⌜ events ≤ 4128768 ⌝ }
-    ensures { λ r. ⌜ (r ≡ blocksFor events) × (r ≤ 65536) ⌝ }
-{
-    (events + 62) / 63
 }
 
 // Internal: the verdict of what the writer is given: 1 for n, 6 for the list's length, 5 for an event. The output's

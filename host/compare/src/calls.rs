@@ -1,4 +1,4 @@
-//! The six calls, as the proved library and as the plain implementation make them: behind the same function pointers,
+//! The calls, as the proved library and as the plain implementation make them: behind the same function pointers,
 //! so that none is inlined, and in statics, so that tests, benchmark and count have the same compiled code of plain.
 
 use vengloaz::raw;
@@ -8,6 +8,9 @@ type Run = fn(&mut [u8], &[u8], &mut [u8], &mut [u8]) -> u64;
 
 /// N, list or tape, output, result.
 type Rewrite = fn(u64, &[u8], &mut [u8], &mut [u8]) -> u64;
+
+/// N, seed, count, output, result.
+type Load = fn(u64, u64, u64, &mut [u8], &mut [u8]) -> u64;
 
 /// A side of a comparison: each call returns 0 or the refusal's number.
 #[derive(Clone, Copy)]
@@ -23,6 +26,7 @@ pub struct Calls {
     pub fresh: fn(u64, u64, &mut [u8], &mut [u8]) -> u64,
     pub write: Rewrite,
     pub read: Rewrite,
+    pub load: Load,
 }
 
 /// The proved library.
@@ -34,6 +38,7 @@ pub static PROVED: Calls = Calls {
     fresh: raw::ring_fresh,
     write: raw::ring_write,
     read: raw::ring_read,
+    load: raw::ring_load,
 };
 
 /// The plain implementation.
@@ -52,5 +57,6 @@ pub const fn plain<const FAULT: u8>() -> Calls {
         fresh: plain::ring_fresh::<FAULT>,
         write: plain::ring_write::<FAULT>,
         read: plain::ring_read::<FAULT>,
+        load: plain::ring_load::<FAULT>,
     }
 }

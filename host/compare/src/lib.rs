@@ -1,6 +1,6 @@
 //! What the comparisons of the proved calls with the plain ones share: answers, time and instructions.
 //!
-//! - `calls`: the six calls of a side,
+//! - `calls`: the calls of a side,
 //! - `case`: a call with everything lent to it, and `lent`: slices with bytes around them that nobody may change,
 //! - `compare`: a case on two sides, and all that they show held against each other,
 //! - `shrink`: a case on which they differ made small, and `smaller`: tapes that it tries,

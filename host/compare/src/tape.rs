@@ -6,6 +6,8 @@ pub const BLOCK: usize = 512;
 pub const SLOTS: usize = 63;
 /// The most blocks of a tape.
 pub const MOST_BLOCKS: usize = 65_536;
+/// The most events of a tape.
+pub const MOST_EVENTS: usize = SLOTS * MOST_BLOCKS;
 
 /// The 8 bytes of an event.
 pub type Event = [u8; 8];
@@ -144,6 +146,18 @@ impl Tape {
     pub fn of(events: &[Event]) -> Self {
         let numbered = events.chunks(SLOTS).enumerate();
         Tape { blocks: numbered.map(|(number, events)| Block::new(number as u16, events)).collect(), tail: Vec::new() }
+    }
+
+    /// The tape that has these bytes.
+    pub fn with_bytes(bytes: &[u8]) -> Self {
+        let (blocks, tail) = bytes.as_chunks::<BLOCK>();
+        let block = |bytes: &[u8; BLOCK]| {
+            let mut block = Block::new(0, &[]);
+            (0..4).chain(8..BLOCK).for_each(|at| *block.byte(at) = bytes[at]);
+            block.seal = Seal::Fixed(u32::from_le_bytes([bytes[4], bytes[5], bytes[6], bytes[7]]));
+            block
+        };
+        Tape { blocks: blocks.iter().map(block).collect(), tail: tail.to_vec() }
     }
 
     /// The tape's bytes.

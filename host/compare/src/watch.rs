@@ -61,13 +61,16 @@ impl<T: Tally> Watch<T> {
         }
     }
 
-    /// Makes a call that must be refused with this number and place, for this cause.
+    /// Makes a call that must be refused with this number and place, for this cause, and leave its output as it was.
     pub fn refused(&mut self, case: &T::Case, number: u64, place: u64, cause: &str) -> Work<(), T::Case> {
         let answer = self.call(case)?;
         let place_shown = answer.word(0).unwrap_or(place);
         if (answer.number, place_shown) != (number, place) {
             let both = format!("both answer {} at {place_shown}", answer.number);
             return Err(Found::new(case, vec![format!("{both}, made to be refused {number} at {place}: {cause}")]));
+        }
+        if answer.output != answer.lent {
+            return Err(Found::new(case, vec![format!("both refuse it with {number}, and change its output")]));
         }
         self.tally.count_refusal(key(case.name(), number, cause));
         Ok(())

@@ -3,8 +3,10 @@
 //!
 //! Uniform events are drawn without a look at the ring; most are idle. Guided events follow the
 //! ring by the plain implementation and are mostly possible, so that fills, takes, sent and got
-//! come often in rings of every size.
+//! come often in rings of every size. Loads are drawn as document 02 has it, for anyone to repeat; `deaths`
+//! tells when they die.
 
+pub mod deaths;
 mod guided;
 mod random;
 
@@ -41,6 +43,13 @@ pub fn fresh(n: u64, home: u64) -> Vec<u8> {
 pub fn tape(n: u64, list: &[u8]) -> Vec<u8> {
     let mut tape = vec![0; 512 * (list.len() / 8).div_ceil(63)];
     assert_eq!(plain::ring_write::<0>(n, list, &mut tape, &mut [0; 80]), 0);
+    tape
+}
+
+/// The tape of a load: so many events for N, drawn from a seed.
+pub fn load(n: u64, seed: u64, events: usize) -> Vec<u8> {
+    let mut tape = vec![0; 512 * events.div_ceil(63)];
+    assert_eq!(plain::ring_load::<0>(n, seed, events as u64, &mut tape, &mut [0; 80]), 0);
     tape
 }
 

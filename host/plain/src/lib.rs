@@ -1,5 +1,5 @@
 //! The ring of processes with one envelope, a second time: plain Rust written from document 01
-//! alone.
+//! alone, and the load from document 02.
 //!
 //! It is the other side of the differential tests, the baseline of the benchmark, and says what
 //! ringrun must print for its samples. It shares nothing with the proved library, has no `unsafe`, and
@@ -10,6 +10,7 @@
 //! - `event`: one event, tested and performed ("The eight events"),
 //! - `put`: what put does (event 7),
 //! - `tape`: the blocks, their check and test, writer and reader ("The tape"),
+//! - `load`: the tape of events that are drawn from a seed (document 02, A.1),
 //! - `run`: a tape of events with its ledger and counts ("The run"),
 //! - `report`: what the program ringrun prints ("The tape").
 //!
@@ -23,6 +24,7 @@
 mod answer;
 mod event;
 mod image;
+mod load;
 mod put;
 mod report;
 mod run;
@@ -31,8 +33,8 @@ mod tape;
 use answer::{answer, Refusal, LEAST_RESULT, OUTPUT_TOO_SHORT};
 use image::Ring;
 
-/// The planted faults 1 to 14, in their order.
-pub const FAULTS: [&str; 14] = [
+/// The planted faults, from 1 on, in their order.
+pub const FAULTS: [&str; 17] = [
     "the right of the last of 37 processes is process 1",
     "an absorbed request does not set 'asked itself'",
     "put clears after it has forwarded",
@@ -47,6 +49,9 @@ pub const FAULTS: [&str; 14] = [
     "refusal 5 in a tape is placed by its slot alone",
     "a check whose upper half is 65,535 passes for 0",
     "stopped overlooks a request for empty at the last process",
+    "the third number of a load's event is drawn only where the code is 0",
+    "a load whose seed is 2,147,483,646 is refused",
+    "a load's count is tested before its seed",
 ];
 
 /// No fault, but another way to count the marks: in two sets, as document 01 names the form. The benchmark has it as a
@@ -124,7 +129,7 @@ pub fn ring_write<const FAULT: u8>(n: u64, list: &[u8], output: &mut [u8], resul
 
 fn write<const FAULT: u8>(n: u64, list: &[u8], output: &mut [u8], result: usize) -> Result<[u64; 8], Refusal> {
     let list = tape::tested_list(size_argument(n)?, list)?;
-    let output = tape::output_for_tape(list, output)?;
+    let output = tape::output_for_tape(list.len(), output)?;
     room_for_result(result)?;
     tape::write::<FAULT>(list, output);
     Ok([output.len() as u64 * 512, 0, 0, 0, 0, 0, 0, 0])
@@ -142,6 +147,25 @@ fn read<const FAULT: u8>(n: u64, tape: &[u8], output: &mut [u8], result: usize) 
     room_for_result(result)?;
     tape::read(tape, output);
     Ok([output.len() as u64, 0, 0, 0, 0, 0, 0, 0])
+}
+
+/// Load: makes the tape of so many events for N, drawn from a seed. The result gets the bytes filled.
+pub fn ring_load<const FAULT: u8>(n: u64, seed: u64, count: u64, output: &mut [u8], result: &mut [u8]) -> u64 {
+    let done = load::<FAULT>(n, seed, count, output, result.len());
+    answer::<FAULT>(result, done)
+}
+
+fn load<const FAULT: u8>(n: u64, seed: u64, count: u64, output: &mut [u8], result: usize) -> Result<[u64; 8], Refusal> {
+    let size = size_argument(n)?;
+    if FAULT == 17 {
+        load::tested_count(count)?;
+    }
+    let generator = load::tested_seed::<FAULT>(seed)?;
+    let count = load::tested_count(count)?;
+    let output = tape::output_for_tape(count, output)?;
+    room_for_result(result)?;
+    load::write::<FAULT>(size, generator, count, output);
+    Ok([output.len() as u64 * 512, 0, 0, 0, 0, 0, 0, 0])
 }
 
 /// The text that the program ringrun prints for its whole standard input.

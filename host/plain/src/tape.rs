@@ -6,7 +6,8 @@ use crate::event::all_right;
 pub type Block = [u8; 512];
 
 const MOST_BLOCKS: usize = 65_536;
-const SLOTS: usize = 63;
+pub const SLOTS: usize = 63;
+pub const MOST_EVENTS: usize = MOST_BLOCKS * SLOTS;
 
 /// The count written in a block.
 pub fn count_of(block: &Block) -> usize {
@@ -125,7 +126,7 @@ fn first_wrong(size: usize, events: &[[u8; 8]]) -> Option<usize> {
 /// The events of a list, or its refusal: 6, then its events 5.
 pub fn tested_list(size: usize, list: &[u8]) -> Result<&[[u8; 8]], Refusal> {
     let (events, ragged) = list.as_chunks::<8>();
-    if events.is_empty() || !ragged.is_empty() || events.len() > MOST_BLOCKS * SLOTS {
+    if events.is_empty() || !ragged.is_empty() || events.len() > MOST_EVENTS {
         return Err(Refusal { number: 6, place: 0 });
     }
     match first_wrong(size, events) {
@@ -134,10 +135,10 @@ pub fn tested_list(size: usize, list: &[u8]) -> Result<&[[u8; 8]], Refusal> {
     }
 }
 
-/// The blocks of an output that the tape of a list fills, or refusal 10.
-pub fn output_for_tape<'a>(list: &[[u8; 8]], output: &'a mut [u8]) -> Result<&'a mut [Block], Refusal> {
+/// The blocks of an output that the tape of so many events fills, or refusal 10.
+pub fn output_for_tape(events: usize, output: &mut [u8]) -> Result<&mut [Block], Refusal> {
     let (blocks, _) = output.as_chunks_mut::<512>();
-    blocks.get_mut(..list.len().div_ceil(SLOTS)).ok_or(OUTPUT_TOO_SHORT)
+    blocks.get_mut(..events.div_ceil(SLOTS)).ok_or(OUTPUT_TOO_SHORT)
 }
 
 /// The bytes of an output that the list of a tape fills, or refusal 10.
@@ -148,14 +149,19 @@ pub fn output_for_list<'a>(tape: &[Block], output: &'a mut [u8]) -> Result<&'a m
 /// Writes a tested list as blocks.
 pub fn write<const FAULT: u8>(list: &[[u8; 8]], output: &mut [Block]) {
     for (number, (block, events)) in output.iter_mut().zip(list.chunks(SLOTS)).enumerate() {
-        let used = events.as_flattened();
-        block[..2].copy_from_slice(&(number as u16).to_le_bytes());
-        block[2..4].copy_from_slice(&(events.len() as u16).to_le_bytes());
-        block[8..8 + used.len()].copy_from_slice(used);
-        block[8 + used.len()..].fill(0);
-        let check = check(block);
-        block[4..8].copy_from_slice(&check.to_le_bytes());
+        block[8..8 + 8 * events.len()].copy_from_slice(events.as_flattened());
+        close(block, number, events.len());
     }
+}
+
+/// Gives a block, whose used slots are written, all the rest: number, count, zeros behind them, and its check.
+#[inline(always)]
+pub fn close(block: &mut Block, number: usize, used: usize) {
+    block[..2].copy_from_slice(&(number as u16).to_le_bytes());
+    block[2..4].copy_from_slice(&(used as u16).to_le_bytes());
+    block[8 + 8 * used..].fill(0);
+    let check = check(block);
+    block[4..8].copy_from_slice(&check.to_le_bytes());
 }
 
 /// Reads the events of a tested tape.

@@ -1,9 +1,12 @@
-//! Inputs of the program ringrun as text, both ways, and what ringrun must print for one.
+//! Inputs of the program ringrun as text, both ways, what ringrun must print for one, and inputs drawn from a seed.
 //!
 //! ```text
 //! ringtape make   < TEXT > INPUT    the bytes of a readable text
 //! ringtape show   < INPUT > TEXT    the reverse; an input that ringrun refuses comes as comments
 //! ringtape expect < INPUT           what ringrun must print, by plain Rust
+//! ringtape load N HOME SEED COUNT [--tape] > INPUT
+//!                                   a load: COUNT events drawn from SEED; with --tape the bare tape,
+//!                                   which may be longer than ringrun takes
 //! ```
 //!
 //! A text has a first line `N HOME`, then events parted by blanks or line feeds: `process.code`, and
@@ -11,8 +14,10 @@
 //! that ringrun accepts, `make` turns into the same bytes.
 //!
 //! A text that isn't understood gets one line on standard error, with its line number, and exit
-//! status 1; so does a failed read or write.
+//! status 1; so does a load that is refused, with its number, and a failed read or write. An argument
+//! that is no decimal number of 64 bits gets a line and exit status 2, another use the usage and 2.
 
+mod load;
 mod make;
 mod show;
 
@@ -23,40 +28,51 @@ const USAGE: &str = "\
 usage: ringtape make   < TEXT > INPUT    the bytes of a readable text
        ringtape show   < INPUT > TEXT    the reverse; an input that ringrun refuses comes as comments
        ringtape expect < INPUT           what ringrun must print, by plain Rust
+       ringtape load N HOME SEED COUNT [--tape] > INPUT
+                                         a load: COUNT events drawn from SEED; with --tape the bare tape,
+                                         which may be longer than ringrun takes
 ";
 
-/// What a command makes of its input, or what is wrong with it.
-type Command = fn(&[u8]) -> Result<Vec<u8>, String>;
+/// Why a command isn't done.
+pub enum Fault {
+    /// There is no such command: the usage, and exit status 2.
+    Usage,
+    /// An argument isn't what it should be: a line, and exit status 2.
+    Argument(String),
+    /// What is asked for can't be had: a line, and exit status 1.
+    Failed(String),
+}
 
 fn main() -> ExitCode {
-    let Some(command) = command() else {
-        eprint!("{USAGE}");
-        return ExitCode::from(2);
+    let Err(fault) = performed() else { return ExitCode::SUCCESS };
+    match &fault {
+        Fault::Usage => eprint!("{USAGE}"),
+        Fault::Argument(what) | Fault::Failed(what) => eprintln!("ringtape: {what}"),
+    }
+    ExitCode::from(if matches!(fault, Fault::Failed(_)) { 1 } else { 2 })
+}
+
+/// Performs the command that the arguments name, and writes what it makes.
+fn performed() -> Result<(), Fault> {
+    let words: Vec<String> = std::env::args_os().skip(1).map(|word| word.to_string_lossy().into_owned()).collect();
+    let words: Vec<&str> = words.iter().map(String::as_str).collect();
+    let output = match &words[..] {
+        ["make"] => make::make(&input()?).map_err(Fault::Failed)?,
+        ["show"] => show::show(&input()?).into_bytes(),
+        ["expect"] => plain::report(&input()?),
+        ["load", words @ ..] => load::load(words)?,
+        _ => return Err(Fault::Usage),
     };
-    if let Err(what) = through(command) {
-        eprintln!("ringtape: {what}");
-        return ExitCode::from(1);
-    }
-    ExitCode::SUCCESS
-}
-
-/// The command that the one argument names.
-fn command() -> Option<Command> {
-    let mut arguments = std::env::args_os().skip(1);
-    let (Some(word), None) = (arguments.next(), arguments.next()) else { return None };
-    match word.to_str()? {
-        "make" => Some(make::make),
-        "show" => Some(|input| Ok(show::show(input).into_bytes())),
-        "expect" => Some(|input| Ok(plain::report(input))),
-        _ => None,
-    }
-}
-
-/// Gives all of standard input to a command, and writes what it makes of it.
-fn through(command: Command) -> Result<(), String> {
-    let mut input = Vec::new();
-    io::stdin().read_to_end(&mut input).map_err(|error| format!("standard input: {error}"))?;
-    let output = command(&input)?;
     let mut out = io::stdout().lock();
-    out.write_all(&output).and_then(|()| out.flush()).map_err(|error| format!("standard output: {error}"))
+    let written = out.write_all(&output).and_then(|()| out.flush());
+    written.map_err(|error| Fault::Failed(format!("standard output: {error}")))
+}
+
+/// All of standard input.
+fn input() -> Result<Vec<u8>, Fault> {
+    let mut input = Vec::new();
+    match io::stdin().read_to_end(&mut input) {
+        Ok(_) => Ok(input),
+        Err(error) => Err(Fault::Failed(format!("standard input: {error}"))),
+    }
 }

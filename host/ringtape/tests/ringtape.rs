@@ -1,4 +1,4 @@
-//! The program ringtape: text to input and back, and what it says of a text that it doesn't understand.
+//! The program ringtape: text to input and back, loads, and what it says of what it doesn't understand.
 
 use std::io::Write;
 use std::process::{Command, Output, Stdio};
@@ -32,11 +32,27 @@ fn shown(input: &[u8]) -> String {
 
 /// What it says of a text that it doesn't understand: one line, exit status 1, and no output.
 fn complaint(text: &[u8]) -> String {
-    let Output { status, stdout, stderr } = ringtape(&["make"], text);
-    assert_eq!((status.code(), stdout.len()), (Some(1), 0), "{}", String::from_utf8_lossy(text));
+    one_line(ringtape(&["make"], text), 1)
+}
+
+/// The one line that it says beside this exit status and no output.
+fn one_line(Output { status, stdout, stderr }: Output, exit: i32) -> String {
     let line = String::from_utf8(stderr).expect("it is text");
+    assert_eq!((status.code(), stdout.len()), (Some(exit), 0), "{line}");
     let what = line.strip_prefix("ringtape: ").and_then(|line| line.strip_suffix('\n'));
     what.filter(|what| !what.contains('\n')).expect("it is one line").to_string()
+}
+
+/// The arguments of a load.
+fn load_words(words: &str) -> Vec<&str> {
+    std::iter::once("load").chain(words.split(' ')).collect()
+}
+
+/// What it writes for a load.
+fn loaded(words: &str) -> Vec<u8> {
+    let Output { status, stdout, stderr } = ringtape(&load_words(words), b"");
+    assert!(status.success() && stderr.is_empty(), "{words}: {}", String::from_utf8_lossy(&stderr));
+    stdout
 }
 
 const ENTRY_1: &str = "2 0\n\
@@ -115,10 +131,109 @@ fn what_is_not_understood_is_named_with_its_line() {
 
 #[test]
 fn other_words_get_the_usage() {
-    for words in [&[][..], &["mak"], &["show", "file"]] {
+    let loads =
+        ["", "4 0 1", "4 0 1 63 63", "4 0 --tape 1 63", "--tape 4 1 63", "--tape 4 0 1 63 --tape", "4 0 1 63 --bare"];
+    let loads = loads.map(load_words);
+    let loads = loads.iter().map(|words| &words[..]);
+    for words in [&[][..], &["mak"], &["show", "file"], &["load"]].into_iter().chain(loads) {
         let Output { status, stdout, stderr } = ringtape(words, b"");
         assert_eq!((status.code(), stdout.len()), (Some(2), 0));
         assert!(stderr.starts_with(b"usage: ringtape make "));
+    }
+}
+
+/// A load comes as ringrun reads it, and with `--tape` as a tape alone, whatever home it has.
+#[test]
+fn loads_are_drawn_from_their_seeds() {
+    for (n, home, seed, count) in [(2, 1, 1, 1), (4, 0, 1, 63), (37, 36, 2_147_483_646, 64), (64, 63, 16_807, 4_032)] {
+        let words = format!("{n} {home} {seed} {count}");
+        let tape = guide::load(n, seed, count);
+        assert!(loaded(&words) == [&[n as u8, home], &tape[..]].concat(), "{words}");
+        assert!(loaded(&format!("{words} --tape")) == tape, "{words}");
+        assert!(loaded(&format!("--tape {words}")) == tape, "{words}");
+    }
+    assert!(loaded("02 00 0001 063") == loaded("2 0 1 63"), "zeros in front make no difference");
+    assert!(loaded("64 0 1 4128768 --tape") == guide::load(64, 1, 4_128_768), "the longest");
+}
+
+/// A load read by `show`, and what ringrun must print for it.
+#[test]
+fn a_load_is_shown() {
+    let input = loaded("2 0 1 63");
+    let text = shown(&input);
+    let words: Vec<&str> = text.split_whitespace().collect();
+    assert_eq!(words[..6], ["2", "0", "1.1", "0.2", "0.6", "1.0(1115438165)"]);
+    assert_eq!((words.len(), text.lines().count()), (2 + 63, 1 + 7));
+    assert_eq!(made(&text), input);
+    let expected = String::from_utf8(done("expect", &input)).expect("it is text");
+    assert!(expected.ends_with("\nstopped\n") || expected.ends_with("\nmoving\n"), "{expected}");
+    let first_ten = "3.1 2.2 0.6 1.0(1115438165) 0.2 3.7 0.4 1.5 0.5 2.0(1505795335)\n";
+    assert!(shown(&loaded("4 3 1 63")).starts_with(&format!("4 3\n{first_ten}")));
+    let readme = include_str!("../../../README.md");
+    let example = "$ target/release/ringtape load 4 0 1 10 | target/release/ringtape show";
+    assert!(readme.contains(&format!("\n{example}\n{}```", shown(&loaded("4 0 1 10")))));
+}
+
+/// A refusal has its number and exit status 1; of several, N comes first, then HOME, SEED and COUNT.
+#[test]
+fn a_load_is_refused_with_its_number() {
+    let [n, home, seed] = ["N is not 2 to 64", "home is not below N", "the seed is not 1 to 2147483646"];
+    let length = "the length is wrong: a tape has 1 to 65536 whole blocks of 512 bytes, a list or load 1 to 4128768 \
+                  events, and ringrun takes up to 64 blocks";
+    let refused = [
+        ("1 0 1 63", 1, n),
+        ("65 0 1 63", 1, n),
+        ("258 0 1 63", 1, n),
+        ("4294967300 9 0 0", 1, n),
+        ("4 4 1 63", 2, home),
+        ("4 256 1 63", 2, home),
+        ("4 4294967296 0 0", 2, home),
+        ("4 0 0 63", 11, seed),
+        ("4 0 2147483647 0", 11, seed),
+        ("4 0 4294967297 18446744073709551615", 11, seed),
+        ("4 0 0 4033", 11, seed),
+        ("4 0 1 0", 6, length),
+        ("4 0 1 4128769", 6, length),
+        ("4 0 1 4294967297", 6, length),
+        ("4 0 1 18446744073709551615", 6, length),
+    ];
+    for (words, number, what) in refused {
+        let line = format!("refused {number} at 0: {what}");
+        assert_eq!(one_line(ringtape(&load_words(words), b""), 1), line, "{words}");
+        let bare = format!("{words} --tape");
+        assert_eq!(one_line(ringtape(&load_words(&bare), b""), 1), line, "{bare}");
+    }
+}
+
+#[test]
+fn a_load_that_ringrun_would_refuse_is_not_written() {
+    assert_eq!(loaded("4 0 1 4032").len(), 2 + 64 * 512);
+    for count in ["4033", "4128768"] {
+        let line = one_line(ringtape(&["load", "4", "0", "1", count], b""), 1);
+        let due = format!(
+            "refused 6 at 0: {count} events are more than the 4032 that ringrun takes; --tape writes up to 4128768"
+        );
+        assert_eq!(line, due);
+    }
+    assert_eq!(loaded("4 0 1 4033 --tape").len(), 65 * 512);
+}
+
+#[test]
+fn an_argument_that_is_no_number_is_named() {
+    let wrong = [
+        ("four 0 1 63", "N is not a decimal number: four"),
+        ("4 -1 1 63", "HOME is not a decimal number: -1"),
+        ("4 0 +1 63", "SEED is not a decimal number: +1"),
+        ("4 0 1 6_3", "COUNT is not a decimal number: 6_3"),
+        ("4 0 0x1 63", "SEED is not a decimal number: 0x1"),
+        ("4 0 1 ", "COUNT is not a decimal number: "),
+        ("4 0 1 ٣", "COUNT is not a decimal number: ٣"),
+        ("4 0 18446744073709551616 63", "SEED does not fit 64 bits: 18446744073709551616"),
+        ("99999999999999999999 0 1 x", "N does not fit 64 bits: 99999999999999999999"),
+        ("1 9 0 63.0", "COUNT is not a decimal number: 63.0"),
+    ];
+    for (words, what) in wrong {
+        assert_eq!(one_line(ringtape(&load_words(words), b""), 2), what, "{words}");
     }
 }
 
@@ -156,7 +271,7 @@ fn a_refused_input_is_shown_as_far_as_it_can_be_read() {
     guide::seal(&mut input[2..]);
     input.extend([1, 0, 63, 0, 1, 2, 3]);
     let ragged = "# refused 6 at 0: the length is wrong: a tape has 1 to 65536 whole blocks of 512 bytes, \
-                  a list 1 to 4128768 events, and ringrun takes up to 64 blocks\n# N 3\n# home 2\n\
+                  a list or load 1 to 4128768 events, and ringrun takes up to 64 blocks\n# N 3\n# home 2\n\
                   # block 0: number 0, count 3, check right\n\
                   # 1.0(7) [02 03 05 00 00 00 00 00] 0.1(9)\n\
                   # unused slot 62: 00 00 00 00 00 00 00 ff\n\

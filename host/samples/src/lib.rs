@@ -10,12 +10,14 @@
 //! - `rules`: rules that are easily overlooked,
 //! - `refusals`: each refusal of ringrun by each of its causes,
 //! - `orders`: two faults at once, of which the first in document 01's order is named,
-//! - `sizes`: the least and the greatest of everything.
+//! - `sizes`: the least and the greatest of everything,
+//! - `loads`: lists drawn from a seed.
 
 pub mod crossing_lists;
 pub mod crossings;
 mod damage;
 mod entries;
+mod loads;
 mod moving;
 mod orders;
 mod play;
@@ -48,6 +50,7 @@ pub fn all() -> Vec<Sample> {
         refusals::samples,
         orders::samples,
         sizes::samples,
+        loads::samples,
     ];
     groups.into_iter().flat_map(|samples| samples()).collect()
 }

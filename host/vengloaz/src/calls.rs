@@ -1,4 +1,4 @@
-//! The six calls of the reference, with types.
+//! The calls of the reference, with types.
 
 use crate::result_slice::ResultSlice;
 use crate::{raw, Counts, Event, Outcome, Refusal};
@@ -6,6 +6,9 @@ use crate::{raw, Counts, Event, Outcome, Refusal};
 /// The bytes of a block, and of the events that it has room for.
 const BLOCK: usize = 512;
 const EVENTS: usize = 504;
+
+/// The most events of a tape.
+const MOST_EVENTS: u64 = 4_128_768;
 
 /// The image of the fresh ring of `n` processes, with the envelope at process `home`: 16 + 8n bytes.
 ///
@@ -177,4 +180,38 @@ pub fn read(n: u64, tape: &[u8]) -> Result<Vec<Event>, Refusal> {
     let filled = ResultSlice::of(|result| raw::ring_read(n, tape, &mut list, result))?.word(0) as usize;
     let (events, _) = list[..filled].as_chunks();
     Ok(events.iter().map(|bytes| Event::from_bytes(*bytes).expect("the tape's events were tested")).collect())
+}
+
+/// The tape of a load, which anyone can make again: `count` events for a ring of `n` processes, drawn from `seed`.
+///
+/// The numbers drawn are those of Park and Miller's minimal standard generator, each 16,807 times the one before modulo
+/// 2,147,483,647, the first of the seed, which isn't one of them. Each event takes three: its process is the first
+/// modulo n, its code the second modulo 8, its message the third where the code is 0, and else 0. So its events are the
+/// first ones of every longer load of the same n and seed.
+///
+/// # Errors
+///
+/// [`Refusal::RingSize`] unless n is 2 to 64; [`Refusal::Seed`] unless the seed is 1 to 2,147,483,646;
+/// [`Refusal::Length`] unless the count is 1 to 4,128,768.
+///
+/// # Examples
+///
+/// ```
+/// use vengloaz::{load, read, Event, Refusal};
+///
+/// let events = read(4, &load(4, 1, 63)?)?;
+/// assert_eq!(events.len(), 63);
+/// assert_eq!(events[0], Event::get(3)); // process 3, code 1
+/// assert_eq!(events[3], Event::put(1, 1_115_438_165));
+/// assert_eq!(load(4, 0, 63), Err(Refusal::Seed));
+/// assert_eq!(load(4, 1, 0), Err(Refusal::Length));
+/// assert_eq!(load(4, 1, u64::MAX), Err(Refusal::Length));
+/// # Ok::<(), Refusal>(())
+/// ```
+pub fn load(n: u64, seed: u64, count: u64) -> Result<Vec<u8>, Refusal> {
+    // Too great a count is the library's to refuse, whatever the output, so it gets none for it.
+    let list = if count <= MOST_EVENTS { 8 * count as usize } else { 0 };
+    let mut tape = vec![0; BLOCK * list.div_ceil(EVENTS)];
+    ResultSlice::of(|result| raw::ring_load(n, seed, count, &mut tape, result))?;
+    Ok(tape)
 }

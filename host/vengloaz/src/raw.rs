@@ -1,10 +1,10 @@
-//! The six functions of the proved library, as they are: numbers and byte slices.
+//! The functions of the proved library, as they are: numbers and byte slices.
 //!
 //! What is returned is the refusal's number, and 0 if there is none. A result slice of at least 80 bytes gets ten
 //! 64-bit little-endian words at its start: outcome and message of a step, the eight counts of a run, 1 or 0 for a ring
-//! that is stopped or isn't, the bytes that the writer or the reader filled, or the place of a refusal, and 0 in the
-//! words behind. In a shorter one nothing is written, and a call that is not refused otherwise is then refused with 10.
-//! The calls of the crate itself say the same with types; `include/vengloaz.h` declares the functions for C.
+//! that is stopped or isn't, the bytes that the writer, the reader or the load filled, or the place of a refusal, and 0
+//! in the words behind. In a shorter one nothing is written, and a call that is not refused otherwise is then refused
+//! with 10. The calls of the crate itself say the same with types; `include/vengloaz.h` declares the functions for C.
 //!
 //! This is the one module of the package with `unsafe`. It is sound because a slice passes as its own pointer and
 //! length, because the borrows keep the slices of a call apart and alive until it returns, and because the functions,
@@ -59,6 +59,16 @@ mod exported {
             n: u64,
             tape: *const u8,
             tape_len: usize,
+            output: *mut u8,
+            output_len: usize,
+            result: *mut u8,
+            result_len: usize,
+        ) -> u64;
+
+        pub fn ring_load(
+            n: u64,
+            seed: u64,
+            count: u64,
             output: *mut u8,
             output_len: usize,
             result: *mut u8,
@@ -215,4 +225,24 @@ pub fn ring_read(n: u64, tape: &[u8], output: &mut [u8], result: &mut [u8]) -> u
             result.len(),
         )
     }
+}
+
+/// Writes the tape of a load, so many events for N processes, drawn from a seed, to the start of an output: 512 bytes
+/// for each 63 events or part of them. Result word: the bytes filled; on a refusal the place, which is 0.
+///
+/// ```
+/// use vengloaz::raw;
+///
+/// let mut tape = [0xff; 513];
+/// let mut result = [0xff; 80];
+/// assert_eq!(raw::ring_load(4, 1, 63, &mut tape, &mut result), 0);
+/// assert_eq!(result[..2], [0, 2]); // 512 bytes
+/// assert_eq!(tape[8..16], [3, 1, 0, 0, 0, 0, 0, 0]); // the first event: process 3, code 1
+/// assert_eq!(tape[512], 0xff); // further bytes are kept
+/// assert_eq!(raw::ring_load(4, 0, 63, &mut tape, &mut result), 11);
+/// assert_eq!(raw::ring_load(4, 1, 64, &mut tape, &mut result), 10); // two blocks
+/// ```
+pub fn ring_load(n: u64, seed: u64, count: u64, output: &mut [u8], result: &mut [u8]) -> u64 {
+    // SAFETY: see the module's comment.
+    unsafe { exported::ring_load(n, seed, count, output.as_mut_ptr(), output.len(), result.as_mut_ptr(), result.len()) }
 }

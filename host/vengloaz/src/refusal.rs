@@ -1,4 +1,4 @@
-//! The ten refusals.
+//! The refusals.
 
 use std::error::Error;
 use std::fmt;
@@ -37,7 +37,7 @@ pub enum Refusal {
         /// The event's number in its list or on its tape; 0 for a single event.
         place: u64,
     },
-    /// 6: the tape or list is empty, ragged, or too long.
+    /// 6: the tape or list is empty, ragged, or too long; or a load is to have no events, or more than a tape has.
     Length,
     /// 7: a block's check differs.
     BlockCheck {
@@ -57,10 +57,12 @@ pub enum Refusal {
     /// 10: the ledger is too short for the records of the run; in [`crate::raw`] also an output or a
     /// result slice.
     OutputShort,
+    /// 11: the seed of a load is 0 or above 2,147,483,646.
+    Seed,
 }
 
 impl Refusal {
-    /// The refusal's number, 1 to 10.
+    /// The refusal's number, from 1 on.
     pub const fn number(self) -> u8 {
         match self {
             Refusal::RingSize => 1,
@@ -73,6 +75,7 @@ impl Refusal {
             Refusal::BlockNumber { .. } => 8,
             Refusal::UnusedSlot { .. } => 9,
             Refusal::OutputShort => 10,
+            Refusal::Seed => 11,
         }
     }
 
@@ -99,6 +102,7 @@ impl Refusal {
             8 => Refusal::BlockNumber { block: place },
             9 => Refusal::UnusedSlot { block: place },
             10 => Refusal::OutputShort,
+            11 => Refusal::Seed,
             _ => return None,
         })
     }
@@ -120,8 +124,8 @@ impl fmt::Display for Refusal {
             ),
             Refusal::Length => write!(
                 out,
-                "the length is wrong: a tape has 1 to 65536 whole blocks of 512 bytes, a list 1 to 4128768 events, and \
-                 ringrun takes up to 64 blocks"
+                "the length is wrong: a tape has 1 to 65536 whole blocks of 512 bytes, a list or load 1 to 4128768 \
+                 events, and ringrun takes up to 64 blocks"
             ),
             Refusal::BlockCheck { block } => {
                 write!(out, "block {block} came damaged: its check isn't that of its bytes")
@@ -135,6 +139,7 @@ impl fmt::Display for Refusal {
             Refusal::OutputShort => {
                 write!(out, "the ledger, output or result slice is too short: a record has 12 bytes, a result 80")
             }
+            Refusal::Seed => write!(out, "the seed is not 1 to 2147483646"),
         }
     }
 }

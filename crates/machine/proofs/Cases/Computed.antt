@@ -17,15 +17,17 @@ use Rattle.machine.specs.Stopped.{quiet, stopped}
 use Rattle.machine.specs.Run.{ledgerRecord, ledgerEntry, ledgerFrom, counted, countsFrom, after}
 use Rattle.machine.specs.Balance.{filledFrom, takenFrom, totalsFrom}
 use Rattle.machine.specs.Tape.{eventIn, eventsIn, words, checkFrom, covered, usedSlots, listOf, blockBytes}
-use Rattle.machine.specs.Tape.{slotsFor, padded, blockFor, tapeOf}
+use Rattle.machine.specs.Tape.{listBytes, slotsFor, padded, blockFor, tapeOf}
 use Rattle.machine.specs.Refusals.{first, sizeVerdict, homeVerdict, roomVerdict, imageVerdict, eventFits}
 use Rattle.machine.specs.Refusals.{eventVerdict, lengthVerdict, listVerdict}
 use Rattle.machine.specs.Refusals.{checkVerdict, blockFits, numberVerdict, usedVerdict, unusedVerdict}
-use Rattle.machine.specs.Refusals.{blockVerdict, tapeVerdict, outputVerdict}
+use Rattle.machine.specs.Refusals.{blockVerdict, tapeVerdict, outputVerdict, countVerdict, seedVerdict}
 use Rattle.machine.specs.Answers.{freshVerdict, freshAnswer, freshImage, stepVerdict, stepAnswer, stepImage}
 use Rattle.machine.specs.Answers.{stoppedAnswer}
 use Rattle.machine.specs.Answers.{runEvents, runRecords, runVerdict, runAnswer, runImage, runLedger}
 use Rattle.machine.specs.Answers.{writeVerdict, writeAnswer, writeOutput, readVerdict, readAnswer, readOutput}
+use Rattle.machine.specs.Load.{drawn, eventBy, loadEvent, loadEvents, loadTape}
+use Rattle.machine.specs.Load.{loadVerdict, loadAnswer, loadOutput}
 use Rattle.machine.specs.Host.{returned, wordsOf, resultBytes, resultAfter, lentWith}
 use Rattle.machine.specs.Text.{text, digits, decimal, line}
 use Rattle.machine.specs.Report.{recordLine, recordLines, countsLine, lastLine, refusalLine, fewVerdict}
@@ -92,6 +94,11 @@ unfoldable pub ofCalls : Bool
 unfolding ofImageCalls ofRunCall ofTapeCalls
 ofCalls = true
 
+unfoldable pub ofLoad : Bool
+unfolding listBytes countVerdict seedVerdict drawn eventBy loadEvent loadEvents loadTape loadVerdict loadAnswer
+    loadOutput
+ofLoad = true
+
 unfoldable pub ofHost : Bool
 unfolding returned wordsOf resultBytes resultAfter lentWith
 ofHost = true
@@ -105,5 +112,5 @@ unfolding ofText fewVerdict reportVerdict ranText reportText reportAnswer report
 ofReport = true
 
 unfoldable pub rules : Bool
-unfolding ofBytes ofLists ofImage ofSound ofEvents ofRun ofBalance ofTape ofBlocks ofCalls ofHost ofReport
+unfolding ofBytes ofLists ofImage ofSound ofEvents ofRun ofBalance ofTape ofBlocks ofCalls ofLoad ofHost ofReport
 rules = true

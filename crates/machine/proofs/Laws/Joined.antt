@@ -1,13 +1,15 @@
--- Laws of joins: one more piece, and how long pieces of one width are together. Each is by induction on how many there
--- are.
-use Prim.Native.Nat.{ℕ, zero, suc, _+_, _*_, _≤_, _<_}
-use mathlib.Core.Path.{_≡_, refl, sym, ap, ap₂, _∙_}
+-- Laws of joins: one more piece, how long pieces of one width are together, and a stretch of these. By induction on how
+-- many there are.
+use Prim.Native.Nat.{ℕ, zero, suc, _+_, _-_, _*_, _≤_, _<_}
+use mathlib.Core.Path.{_≡_, refl, sym, ap, _∙_}
 use mathlib.Core.List.{List, [], _∷_, _++_, append-assoc, append-nil}
 use native.Mathlib.Omega.{arith}
 use native.Mathlib.Numerals.{add-one}
-use lib.ListN.{length, length-append}
+use lib.ListN.{length, take, length-append}
+use lib.Seq.{take-at, drop-at}
+use Rattle.machine.specs.Bytes.{part}
 use Rattle.machine.specs.Lists.{tabulate, join}
-use Rattle.machine.proofs.Laws.Lists.{tabulate-more}
+use Rattle.machine.proofs.Laws.Lists.{tabulate-more, tabulate-same, tabulate-add}
 
 -- two rows of pieces
 pub join-append : (xs ys : List (List ℕ)) → join (xs ++ ys) ≡ join xs ++ join ys
@@ -36,8 +38,23 @@ length-joined f w i (suc n) wide =
 -- the same pieces
 pub joined-same : (f g : ℕ → List ℕ) (i n : ℕ) → ((b : ℕ) → i ≤ b → b < i + n → f b ≡ g b)
     → join (tabulate f i n) ≡ join (tabulate g i n)
-unfolding join tabulate
-joined-same f g i zero same = refl
-joined-same f g i (suc n) same =
-    ap₂ (λ (a b : List ℕ). a ++ b) (same i (omega arith) (omega arith))
-    (joined-same f g (i + 1) n (λ b low high. same b (omega arith) (omega arith)))
+joined-same f g i n same = ap join (tabulate-same f g i n same)
+
+-- a stretch of pieces of one width
+pub part-pieces : (f : ℕ → List ℕ) (w i n k m : ℕ) → ((b : ℕ) → length (f b) ≡ w) → k + m ≤ n
+    → part (join (tabulate f i n)) (w * k) (w * m) ≡ join (tabulate f (i + k) m)
+part-pieces f w i n k m wide h =
+    let r = n - (k + m) in
+    let all : n ≡ k + (m + r) = omega arith in
+    let before = join (tabulate f i k) in
+    let these = join (tabulate f (i + k) m) in
+    let behind = join (tabulate f (i + k + m) r) in
+    let apart : join (tabulate f i n) ≡ before ++ (these ++ behind) =
+    ap (λ (c : ℕ). join (tabulate f i c)) all
+    ∙ ap join (tabulate-add f i k (m + r))
+    ∙ join-append (tabulate f i k) (tabulate f (i + k) (m + r))
+    ∙ ap (λ (l : List ℕ). before ++ l)
+    (ap join (tabulate-add f (i + k) m r) ∙ join-append (tabulate f (i + k) m) (tabulate f (i + k + m) r)) in
+    ap (λ (l : List ℕ). part l (w * k) (w * m)) apart
+    ∙ ap (take (w * m)) (drop-at before (these ++ behind) (w * k) (length-joined f w i k (λ b low high. wide b)))
+    ∙ take-at these behind (w * m) (length-joined f w (i + k) m (λ b low high. wide b))

@@ -1,5 +1,5 @@
 -- Laws of tests, and of lists by index and by element.
-use Prim.Native.Nat.{ℕ, zero, suc, _+_, _<_}
+use Prim.Native.Nat.{ℕ, zero, suc, _+_, _≤_, _<_}
 use mathlib.Core.Path.{_≡_, refl, sym, ap, ap₂, _∙_, subst}
 use mathlib.Core.Bool.{Bool, true, false, not, _&&_, _||_, Bool·beq, and-true, and-assoc, true≢false, false≢true}
 use mathlib.Core.List.{List, [], _∷_, _++_}
@@ -76,6 +76,27 @@ tabulate-more f i zero = ap (λ (k : ℕ). f k ∷ []) (omega arith)
 tabulate-more f i (suc n) =
     let e : i + 1 + n ≡ i + suc n = omega arith in
     ap (λ l. f i ∷ l) (tabulate-more f (i + 1) n ∙ ap (λ (k : ℕ). tabulate f (i + 1) n ++ (f k ∷ [])) e)
+
+-- the same at each index
+pub tabulate-same : {A : Type 0} (f g : ℕ → A) (i n : ℕ) → ((k : ℕ) → i ≤ k → k < i + n → f k ≡ g k)
+    → tabulate f i n ≡ tabulate g i n
+unfolding tabulate
+tabulate-same f g i zero same = refl
+tabulate-same f g i (suc n) same =
+    ap₂ (λ x l. x ∷ l) (same i (omega arith) (omega arith))
+    (tabulate-same f g (i + 1) n (λ k low high. same k (omega arith) (omega arith)))
+
+-- so many, and then so many more
+pub tabulate-add : {A : Type 0} (f : ℕ → A) (i j k : ℕ) → tabulate f i (j + k) ≡ tabulate f i j ++ tabulate f (i + j) k
+unfolding tabulate
+tabulate-add f i zero k =
+    let none : 0 + k ≡ k = omega arith in
+    let here : i + 0 ≡ i = omega arith in
+    rw (none, here)
+tabulate-add f i (suc j) k =
+    let more : suc j + k ≡ suc (j + k) = omega arith in
+    let there : i + 1 + j ≡ i + suc j = omega arith in
+    rw (more, ← there) (ap (λ l. f i ∷ l) (tabulate-add f (i + 1) j k))
 
 -- ---- every
 

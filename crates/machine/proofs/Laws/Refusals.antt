@@ -23,8 +23,8 @@ use Rattle.machine.specs.Answers.{freshVerdict}
 use Rattle.machine.proofs.Laws.Bytes.{zeros-number}
 use Rattle.machine.proofs.Laws.Lists.{and-first, and-second}
 
--- every refusal's number is 1 to 10
-pub number-range : (r : Refusal) → (1 ≤ numberOf r) × (numberOf r ≤ 10)
+-- every refusal's number is 1 to 11
+pub number-range : (r : Refusal) → (1 ≤ numberOf r) × (numberOf r ≤ 11)
 number-range refusal.Size = (lit≤ tt, lit≤ tt)
 number-range refusal.Home = (lit≤ tt, lit≤ tt)
 number-range refusal.Short = (lit≤ tt, lit≤ tt)
@@ -35,6 +35,15 @@ number-range (refusal.Check b) = (lit≤ tt, lit≤ tt)
 number-range (refusal.Block b) = (lit≤ tt, lit≤ tt)
 number-range (refusal.Unused b) = (lit≤ tt, lit≤ tt)
 number-range refusal.Output = (lit≤ tt, lit≤ tt)
+number-range refusal.Seed = (lit≤ tt, lit≤ tt)
+
+-- ---- one test, as code makes it: b is what it found for the rule's t
+
+pub test-refuses : {b t : Bool} (r : Refusal) → b ≡ t → b ≡ false → Refused r ≡ unless t r
+test-refuses r is e = rw (sym is ∙ e)
+
+pub test-passes : {b t : Bool} (r : Refusal) → b ≡ t → b ≡ true → Fine ≡ unless t r
+test-passes r is e = rw (sym is ∙ e)
 
 -- ---- tests in a row, as code makes them: x is what it found for the rule's u
 

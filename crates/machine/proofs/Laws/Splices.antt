@@ -4,7 +4,8 @@ use mathlib.Core.Path.{_≡_, refl, sym, ap, ap₂, _∙_}
 use mathlib.Core.List.{List, [], _∷_, _++_}
 use native.Mathlib.Omega.{arith}
 use lib.ListN.{length, take, drop, length-drop, take-append-drop}
-use lib.Seq.{take-append-le, drop-append-le, drop-at, take-append-seam, length-take-le, take-take, drop-drop}
+use lib.Seq.{take-append-le, drop-append-le, drop-append-add, drop-at, take-append-seam, length-take-le, take-take}
+use lib.Seq.{drop-drop}
 use Rattle.machine.specs.Bytes.{part, splice}
 use Rattle.machine.proofs.Laws.Bytes.{splice-right, splice-whole}
 
@@ -89,3 +90,33 @@ splice-apart s at a k b before within =
 pub splice-none : (s : List ℕ) (at : ℕ) → s ≡ splice s at []
 unfolding splice
 splice-none s at = let e : at + 0 ≡ at = omega arith in rw e (sym (take-append-drop at s))
+
+-- what stands there is written again
+pub splice-part : (s : List ℕ) (at w : ℕ) → at + w ≤ length s → s ≡ splice s at (part s at w)
+unfolding splice
+splice-part s at w h =
+    let wide : length (part s at w) ≡ w = length-take-le w (drop at s) (rw (length-drop at s) (omega arith)) in
+    rw (wide, ← drop-drop w at s, take-append-drop w (drop at s)) (sym (take-append-drop at s))
+
+-- behind what is written
+drop-behind : (s : List ℕ) (at : ℕ) (bs : List ℕ) (k : ℕ) → at ≤ length s → at + length bs ≤ k
+    → drop k (splice s at bs) ≡ drop k s
+unfolding splice
+drop-behind s at bs k h behind =
+    let j = k - (at + length bs) in
+    let rest = drop (at + length bs) s in
+    let here : k ≡ length (take at s) + (length bs + j) = omega (arith, length-take-le at s h) in
+    let there : at + length bs + j ≡ k = omega arith in
+    ap (λ (m : ℕ). drop m (take at s ++ (bs ++ rest))) here
+    ∙ drop-append-add (take at s) (bs ++ rest) (length bs + j)
+    ∙ drop-append-add bs rest j
+    ∙ drop-drop j (at + length bs) s
+    ∙ ap (λ (m : ℕ). drop m s) there
+
+-- what is written over is lost
+pub splice-over : (s : List ℕ) (at k : ℕ) (a b : List ℕ) → k + length a ≤ length b → at + length b ≤ length s
+    → splice (splice s (at + k) a) at b ≡ splice s at b
+unfolding splice
+splice-over s at k a b inside room =
+    ap₂ (λ (l m : List ℕ). l ++ (b ++ m)) (part-before s (at + k) a (omega arith) 0 at (omega arith))
+    (drop-behind s (at + k) a (at + length b) (omega arith) (omega arith))

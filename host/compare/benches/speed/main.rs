@@ -6,6 +6,7 @@
 //! sides are made to give the same numbers, images, ledgers and results.
 
 mod calls;
+mod loads;
 mod runs;
 mod same;
 mod table;
@@ -25,5 +26,6 @@ fn main() {
     runs::measure(&mut table, effort);
     calls::measure(&mut table, effort);
     tapes::measure(&mut table, effort);
+    loads::measure(&mut table, effort);
     table.end();
 }

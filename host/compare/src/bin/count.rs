@@ -1,6 +1,6 @@
-//! Calls for callgrind to count: `count SIDE KIND N` makes some thousand calls of one kind on one side, each through
-//! `counted_run`, `counted_step` or `counted_stopped`. `benches/count` has it run under callgrind and prints what it
-//! counted, for an event or a call.
+//! Calls for callgrind to count: `count SIDE KIND N` makes a call of some thousand events, or some thousand calls, of
+//! one kind on one side, each through `counted_run`, `counted_load`, `counted_step` or `counted_stopped`.
+//! `benches/count` has it run under callgrind and prints what it counted, for an event or a call.
 
 use compare::calls::{Calls, PLAIN, PROVED, SETS};
 use compare::used::used_image;
@@ -34,6 +34,10 @@ fn main() {
             let (tape, mut ledger) = (guide::tape(n, &list), vec![0; 12 * events]);
             counted_run(side, &mut image, &tape, &mut ledger, &mut result);
         }
+        "load" => {
+            let mut tape = vec![0; 512 * BLOCKS];
+            counted_load(side, n, 63 * BLOCKS as u64, &mut tape, &mut result);
+        }
         "step" => {
             let list = guide::guided(&image, CALLS, &mut random);
             list.chunks_exact(8).for_each(|event| counted_step(side, &mut image, event, &mut result));
@@ -47,6 +51,12 @@ fn main() {
 #[inline(never)]
 fn counted_run(side: &Calls, image: &mut [u8], tape: &[u8], ledger: &mut [u8], result: &mut [u8]) {
     assert_eq!((black_box(side).run)(image, tape, ledger, result), 0);
+}
+
+#[no_mangle]
+#[inline(never)]
+fn counted_load(side: &Calls, n: u64, events: u64, tape: &mut [u8], result: &mut [u8]) {
+    assert_eq!((black_box(side).load)(n, 1, events, tape, result), 0);
 }
 
 #[no_mangle]

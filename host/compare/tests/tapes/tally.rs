@@ -1,6 +1,6 @@
 //! Counts of what was exercised, and how much must be at the least.
 
-use crate::case::Case;
+use crate::case::{Call, Case};
 use compare::case::Case as _;
 use compare::compare::Answer;
 use compare::counts::{Counts, Missing};
@@ -12,8 +12,10 @@ use compare::watch::{self, key};
 pub struct Tally {
     /// Calls.
     pub calls: u64,
-    /// Events written and read.
+    /// Events written, read and drawn.
     pub events: u64,
+    /// Loads, by N.
+    loads: Counts<u64>,
     /// Refusals, by call, number and cause.
     refusals: Counts<String>,
 }
@@ -25,6 +27,9 @@ impl watch::Tally for Tally {
         self.calls += 1;
         if answer.number == 0 {
             self.events += case.events() as u64;
+            if let Call::Load(..) = case.call {
+                self.loads.add(case.n, 1);
+            }
         }
     }
 
@@ -37,7 +42,8 @@ impl Tally {
     /// What was exercised too little.
     pub fn missing(&self) -> Missing {
         let mut missing = Missing::default();
-        missing.least("events", self.events, 8_000_000);
+        missing.least("events", self.events, 24_000_000);
+        (2..=64).for_each(|n| missing.least(&format!("loads for N = {n}"), self.loads.of(&n), 90));
         let mut least = |call: &str, number: u64, cause: &str, least: u64| {
             let key = key(call, number, cause);
             missing.least(&key, self.refusals.of(&key), least);
@@ -48,12 +54,22 @@ impl Tally {
         least("write", 6, "empty", 63);
         least("write", 6, "ragged", 400);
         least("write", 6, "ragged, with wrong events", 400);
-        for call in ["fresh", "write", "read"] {
+        for cause in ["seed 0", "seed above 2,147,483,646"] {
+            least("load", 11, cause, 63);
+            least("load", 11, &format!("{cause}, and all else wrong"), 63);
+        }
+        for cause in ["no events", "too many events"] {
+            least("load", 6, cause, 126);
+            least("load", 6, &format!("{cause}, and no output"), 126);
+        }
+        for call in ["fresh", "write", "read", "load"] {
             least(call, 1, "N outside 2 to 64", 20);
             least(call, 10, "result under 80 bytes", 5_000);
         }
         for call in ["write", "read"] {
             least(call, 6, "too long", 1);
+        }
+        for call in ["write", "read", "load"] {
             for cause in ["a byte short", "a block or event short", "no bytes"] {
                 least(call, 10, cause, 63);
             }

@@ -1,11 +1,12 @@
 //! The calls to make: every N and home, lists and tapes of many lengths, every refusal by every cause.
 
 use crate::case::{Call, Case};
+use crate::loads;
 use crate::tally::Tally;
 use crate::{Watch, Work};
 use compare::calls::Calls;
 use compare::damage::{any_event, event_causes, tape_causes};
-use compare::tape::{Event, Tape, BLOCK, MOST_BLOCKS, SLOTS};
+use compare::tape::{Event, Tape, BLOCK, MOST_BLOCKS, MOST_EVENTS, SLOTS};
 use compare::watch::Found;
 use guide::Random;
 
@@ -16,9 +17,13 @@ pub fn work(sides: [Calls; 2], seed: u64) -> (Tally, Option<Found<Case>>) {
     (watch.tally, found.map(|found| *found))
 }
 
-/// Makes a call that must not be refused, and that fills so many bytes; gives the output.
-fn filled(watch: &mut Watch, case: &Case, filled: usize) -> Work<Vec<u8>> {
+/// Makes a call that must not be refused, that fills so many bytes and keeps those behind them; gives the output. A
+/// fresh ring tells 0, and its image isn't looked at here.
+pub fn filled(watch: &mut Watch, case: &Case, filled: usize) -> Work<Vec<u8>> {
     let answer = watch.accepted(case)?;
+    if filled != 0 && answer.output[filled..] != answer.lent[filled..] {
+        return Err(Found::new(case, vec!["both change bytes behind those filled".to_string()]));
+    }
     match answer.word(0) {
         Some(word) if word == filled as u64 => Ok(answer.output),
         word => Err(Found::new(case, vec![format!("both fill {word:?}, {filled} bytes are due")])),
@@ -32,9 +37,11 @@ fn all(watch: &mut Watch, random: &mut Random) -> Work<()> {
         wrong_lists(watch, n, random)?;
         wrong_tapes(watch, n, random)?;
         short_outputs(watch, n, random)?;
+        loads::all(watch, n, random)?;
     }
     wrong_sizes(watch, random)?;
-    longest(watch, random)
+    longest(watch, random)?;
+    loads::longest(watch, random)
 }
 
 /// Fresh rings of every home, with buffers of every length.
@@ -73,7 +80,7 @@ fn round_trips(watch: &mut Watch, n: usize, random: &mut Random) -> Work<()> {
     Ok(())
 }
 
-fn round_trip(watch: &mut Watch, n: usize, list: &[u8], random: &mut Random) -> Work<()> {
+pub fn round_trip(watch: &mut Watch, n: usize, list: &[u8], random: &mut Random) -> Work<()> {
     let n = n as u64;
     let bytes = BLOCK * (list.len() / 8).div_ceil(SLOTS);
     let room = bytes + random.pick(&[0, 1, 511, 512]);
@@ -131,7 +138,12 @@ fn short_outputs(watch: &mut Watch, n: usize, random: &mut Random) -> Work<()> {
     let many = random.within(SLOTS + 1, 140);
     let list = any_list(random, n, many);
     let tape = Tape::of(list.as_chunks().0);
-    let calls = [(Call::Write(list), BLOCK * tape.blocks.len(), BLOCK), (Call::Read(tape), 8 * many, 8)];
+    let tape_bytes = BLOCK * tape.blocks.len();
+    let calls = [
+        (Call::Write(list), tape_bytes, BLOCK),
+        (Call::Load(1 + random.below(loads::MOST_SEED), many as u64), tape_bytes, BLOCK),
+        (Call::Read(tape), 8 * many, 8),
+    ];
     for (call, bytes, unit) in calls {
         let case = |output: usize, result: usize| Case { n: n as u64, call: call.clone(), output, result };
         watch.refused(&case(bytes - 1, 80), 10, 0, "a byte short")?;
@@ -155,7 +167,8 @@ fn wrong_sizes(watch: &mut Watch, random: &mut Random) -> Work<()> {
             let list = if wrong { Vec::new() } else { any_list(random, 2, 70) };
             let tape = Tape::of(list.as_chunks().0);
             let home = if wrong { u64::MAX } else { 0 };
-            for call in [Call::Fresh(home), Call::Write(list.clone()), Call::Read(tape)] {
+            let load = if wrong { Call::Load(0, 0) } else { Call::Load(1, 70) };
+            for call in [Call::Fresh(home), Call::Write(list.clone()), Call::Read(tape), load] {
                 watch.refused(&Case { n, call, output, result }, 1, 0, "N outside 2 to 64")?;
             }
         }
@@ -165,7 +178,7 @@ fn wrong_sizes(watch: &mut Watch, random: &mut Random) -> Work<()> {
 
 /// The longest list and tape, and those that are too long.
 fn longest(watch: &mut Watch, random: &mut Random) -> Work<()> {
-    let list = any_list(random, 64, SLOTS * MOST_BLOCKS + 1);
+    let list = any_list(random, 64, MOST_EVENTS + 1);
     let fits = &list[..list.len() - 8];
     round_trip(watch, 64, fits, random)?;
     let mut tape = Tape::of(fits.as_chunks().0);

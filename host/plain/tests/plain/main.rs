@@ -1,8 +1,9 @@
-//! The plain implementation against document 01: its ten entries, the refusals' order, and ringrun's
-//! text.
+//! The plain implementation against documents 01 and 02: the ten entries, the refusals' order, ringrun's
+//! text, and loads.
 
 mod entries;
 mod faults;
+mod loads;
 mod refusals;
 mod reports;
 mod support;

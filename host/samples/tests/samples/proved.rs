@@ -2,7 +2,8 @@
 
 use crate::support::*;
 use samples::{all, Sample};
-use vengloaz::{fresh, records, run, stopped, Refusal};
+use std::collections::BTreeSet;
+use vengloaz::{fresh, load, records, run, stopped, Refusal};
 
 /// What ringrun must print, by the proved calls and the package's own lines. Those know nothing of a missing N or home,
 /// nor of ringrun's most blocks; nothing is given where one of these is at fault.
@@ -37,4 +38,30 @@ fn the_proved_calls_give_the_same_texts() {
         }
     }
     assert!(compared > 150, "{compared} compared");
+}
+
+/// The numbers of a load's name: N, home, seed and events.
+fn named(sample: &Sample) -> Option<[u64; 4]> {
+    let words: Vec<&str> = sample.name.split('-').collect();
+    let ["load", n, "home", home, "seed", seed, "events", events] = words[..] else { return None };
+    Some([n.strip_prefix('n')?, home, seed, events].map(|digits| digits.parse().expect("it is a number")))
+}
+
+/// A load is the one of its name, and there are rings, homes, seeds and counts at both ends and between.
+#[test]
+fn a_load_is_the_proved_one_of_its_name() {
+    let samples = all();
+    let loads = samples.iter().filter(|sample| sample.name.starts_with("load-"));
+    let mut seen: [BTreeSet<u64>; 5] = Default::default();
+    for sample in loads {
+        let [n, home, seed, events] = named(sample).expect("a load's name has its numbers");
+        let tape = load(n, seed, events).expect("it is a load");
+        assert!(sample.input == [&[n as u8, home as u8], &tape[..]].concat(), "{}", sample.name);
+        [n, seed, events].iter().zip(&mut seen).for_each(|(number, seen)| _ = seen.insert(*number));
+        seen[if home == n - 1 { 3 } else { 4 }].insert(n);
+    }
+    let all_of = |at: usize, numbers: &[u64]| numbers.iter().all(|number| seen[at].contains(number));
+    assert!(all_of(0, &[2, 4, 37, 64]) && all_of(1, &[1, 2_147_483_646]) && all_of(2, &[1, 62, 63, 64, 4_032]));
+    assert!(all_of(3, &[2, 4, 37, 64]) && all_of(4, &[2, 4, 37, 64]), "the last process as home, and another");
+    assert!(seen[1].len() > 4, "seeds between");
 }

@@ -1,7 +1,7 @@
 //! What the calls answer when they aren't refused.
 
 use crate::support::{events, ring, tape, ENTRY};
-use vengloaz::{fresh, read, records, run, step, stopped, write, Counts, Event, Outcome, Record};
+use vengloaz::{fresh, load, read, records, run, step, stopped, write, Counts, Event, Outcome, Record};
 
 /// The last image of entry 1, which entry 2 gives.
 const LAST_IMAGE: [u8; 32] =
@@ -117,5 +117,30 @@ fn lists_are_written_and_read_back() {
         let written = write(64, &list).expect("these are events of a ring of 64");
         assert!(written == guide::tape(64, &bytes), "{length} events");
         assert!(read(64, &written) == Ok(list), "{length} events");
+    }
+}
+
+/// The first events of seed 1 for four processes, by a calculation of its own.
+const SEED_1: &str = "3.1 2.2 0.6 1.0(1115438165) 0.2 3.7 0.4 1.5 0.5 2.0(1505795335)";
+
+#[test]
+fn a_load_has_the_events_of_its_seed() {
+    let list = read(4, &load(4, 1, 10).expect("it is a load")).expect("its tape is right");
+    assert_eq!(list, events(SEED_1));
+}
+
+/// Loads of one, two and many blocks: the tape is that of plain and the writer's, and begins every longer one.
+#[test]
+fn loads_are_tapes_of_their_events() {
+    for (n, seed) in [(2, 1), (3, 2_147_483_646), (37, 16_807), (64, 1_043_618_065)] {
+        let longest = load(n, seed, 4_033).expect("it is a load");
+        for length in [1, 2, 62, 63, 64, 125, 126, 127, 4_032, 4_033] {
+            let tape = load(n, seed, length as u64).expect("it is a load");
+            assert!(tape == guide::load(n, seed, length), "{length} events");
+            let list = read(n, &tape).expect("its tape is right");
+            assert_eq!(list.len(), length);
+            assert!(write(n, &list).as_ref() == Ok(&tape), "{length} events");
+            assert!(tape[..length / 63 * 512] == longest[..length / 63 * 512], "{length} events");
+        }
     }
 }

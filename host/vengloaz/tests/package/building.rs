@@ -57,6 +57,7 @@ fn what_needs_no_call_builds_without_archives() {
         &["doc", "--package", "vengloaz", "--no-default-features", "--no-deps"][..],
         &["build", "--package", "vengloaz", "--no-default-features"],
         &["build", "--package", "ringtape"],
+        &["build", "--package", "guide"],
     ];
     for command in commands {
         let (built, said) = cargo(command, Path::new("no/such/folder"));

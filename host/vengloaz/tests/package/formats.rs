@@ -1,7 +1,7 @@
 //! The worked examples of docs/FORMATS.md, each held against what the proved calls give.
 
 use crate::support::{events, ledger, ring, tape, ENTRY};
-use vengloaz::{raw, step, Event};
+use vengloaz::{load, raw, step, Event};
 
 const FORMATS: &str = include_str!("../../../../docs/FORMATS.md");
 
@@ -63,12 +63,14 @@ fn the_examples_in_bytes() {
     let (mut run, mut fill) = ([0xEE; 80], [0xEE; 80]);
     assert_eq!(raw::ring_run(&mut ring(), &story, &mut [0; 48], &mut run), 0);
     assert_eq!(raw::ring_step(&mut after(7), &Event::new(1, 2).to_bytes(), &mut fill), 0);
-    let due: [(&str, &[u8]); 9] = [
+    let load = load(4, 1, 8).expect("it is a load");
+    let due: [(&str, &[u8]); 10] = [
         ("Image", &ring()),
         ("Image", &after(13)),
         ("Event", &Event::put(1, 7).to_bytes()),
         ("Block", &tape(&[Event::put(1, 7)])),
         ("Tape", &story),
+        ("Load", &load),
         ("Ledger record", &ledger(ENTRY)),
         ("Result slice", &run),
         ("Result slice", &fill),

@@ -3,7 +3,7 @@
 use crate::support::{events, ledger, ring, tape, ENTRY};
 use std::cell::RefCell;
 use std::collections::{BTreeMap, BTreeSet};
-use vengloaz::{fresh, raw, run, step, write, Event, Outcome, Refusal};
+use vengloaz::{fresh, load, raw, read, run, step, write, Event, Outcome, Refusal};
 
 const HEADER: &str = include_str!("../../../../include/vengloaz.h");
 
@@ -70,6 +70,7 @@ fn every_number_is_that_of_the_calls() {
     steps(&numbers);
     blocks(&numbers);
     records(&numbers);
+    loads(&numbers);
     words(&numbers);
     let used = numbers.used.borrow();
     let unused: Vec<_> = numbers.all.keys().filter(|name| !used.contains(*name)).collect();
@@ -117,6 +118,7 @@ fn refusals(numbers: &Numbers) {
         ("REFUSED_BLOCK", Refusal::BlockNumber { block: 0 }),
         ("REFUSED_UNUSED", Refusal::UnusedSlot { block: 0 }),
         ("REFUSED_OUTPUT", Refusal::OutputShort),
+        ("REFUSED_SEED", Refusal::Seed),
     ];
     for (name, refusal) in named {
         assert_eq!(numbers.of(name), usize::from(refusal.number()), "{name}");
@@ -269,6 +271,19 @@ fn records(numbers: &Numbers) {
     }
 }
 
+fn loads(numbers: &Numbers) {
+    let (least, most) = (numbers.of("LEAST_SEED") as u64, numbers.of("MOST_SEED") as u64);
+    for seed in [least - 1, most + 1] {
+        let number = raw::ring_load(2, seed, 1, &mut [0; 512], &mut [0; 80]);
+        assert_eq!(number, numbers.of("REFUSED_SEED") as u64, "seed {seed}");
+    }
+    for seed in [least, most] {
+        let events = load(2, seed, 4_032).and_then(|tape| read(2, &tape)).expect("it is a load");
+        let codes: BTreeSet<usize> = events.iter().map(|event| usize::from(event.code)).collect();
+        assert_eq!(codes, (numbers.of("WISH_PUT")..=numbers.of("PUT_ACTS")).collect(), "seed {seed}");
+    }
+}
+
 /// The counts after each beginning of a list, in which each count goes its own way.
 fn words(numbers: &Numbers) {
     let list = events(&format!("{ENTRY} 1.0(8) 1.0(9) 0.2 0.4 1.3 1.7 0.6 0.7"));
@@ -291,4 +306,6 @@ fn words(numbers: &Numbers) {
     assert_eq!(word(&result, numbers.of("WORD_STOPPED")), 0);
     raw::ring_write(2, &Event::get(1).to_bytes(), &mut [0; 600], &mut result);
     assert_eq!(word(&result, numbers.of("WORD_FILLED")), 512);
+    raw::ring_load(2, 1, 64, &mut [0; 1100], &mut result);
+    assert_eq!(word(&result, numbers.of("WORD_FILLED")), 1024);
 }

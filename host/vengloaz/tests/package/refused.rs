@@ -1,7 +1,7 @@
 //! What each refusal becomes as a value, by each call that has it.
 
 use crate::support::{events, ring, tape, ENTRY};
-use vengloaz::{fresh, read, run, step, stopped, write, Event, Refusal};
+use vengloaz::{fresh, load, read, run, step, stopped, write, Event, Refusal};
 
 /// Asserts that a call is refused so, and that its refusal has this number and place.
 fn assert_refused<T: std::fmt::Debug + PartialEq>(answer: Result<T, Refusal>, due: Refusal, number: u8, place: u64) {
@@ -16,6 +16,8 @@ fn sizes_and_homes() {
         assert_refused(fresh(n, 0), Refusal::RingSize, 1, 0);
         assert_refused(write(n, &one), Refusal::RingSize, 1, 0);
         assert_refused(read(n, &tape(&one)), Refusal::RingSize, 1, 0);
+        assert_refused(load(n, 1, 1), Refusal::RingSize, 1, 0);
+        assert_refused(load(n, 0, u64::MAX), Refusal::RingSize, 1, 0);
     }
     for home in [64, 65, 255, 256, 1 << 32, u64::MAX] {
         assert_refused(fresh(64, home), Refusal::Home, 2, 0);
@@ -68,6 +70,22 @@ fn lists_of_a_wrong_length() {
     assert_refused(write(2, &longest), Refusal::Length, 6, 0);
 }
 
+#[test]
+fn seeds_and_counts_of_loads() {
+    for seed in [0, 2_147_483_647, 1 << 31, 1 << 32, (1 << 32) + 1, 1 << 63, u64::MAX] {
+        for count in [0, 1, 4_128_768, 4_128_769, u64::MAX] {
+            assert_refused(load(2, seed, count), Refusal::Seed, 11, 0);
+        }
+    }
+    // None of these is lent an output, which for the greatest of them no machine has.
+    for count in [0, 4_128_769, 1 << 32, (1 << 32) + 1, 1 << 63, u64::MAX] {
+        for seed in [1, 2_147_483_646] {
+            assert_refused(load(2, seed, count), Refusal::Length, 6, 0);
+        }
+    }
+    assert_eq!(load(2, 1, 4_128_768).map(|tape| tape.len()), Ok(65_536 * 512));
+}
+
 /// A tape of three blocks, damaged: run and read refuse it alike, and the run has changed nothing.
 #[test]
 fn damaged_tapes() {
@@ -113,12 +131,12 @@ fn short_ledgers() {
 
 #[test]
 fn every_refusal_comes_from_its_number() {
-    for number in 1..=10 {
-        let refusal = Refusal::from_number(number, 70).expect("there are ten");
+    for number in 1..=11 {
+        let refusal = Refusal::from_number(number, 70).expect("there is one of this number");
         let place = if matches!(number, 5 | 7 | 8 | 9) { 70 } else { 0 };
         assert_eq!((u64::from(refusal.number()), refusal.place()), (number, place));
     }
-    for number in [0, 11, 256 + 1, u64::MAX] {
+    for number in [0, 12, 256 + 1, u64::MAX] {
         assert_eq!(Refusal::from_number(number, 0), None);
     }
 }
