@@ -30,6 +30,7 @@ int main(void)
     uint8_t result[RING_RESULT_SIZE];
     uint64_t seed;
 
+    printf("63 events take %d bytes, 64 take %d\n", RING_TAPE_SIZE(63), RING_TAPE_SIZE(64));
     for (seed = 0; seed <= 3; seed++) {
         uint64_t refusal = ring_load(PROCESSES, seed, EVENTS, tape, sizeof tape, result, sizeof result);
 

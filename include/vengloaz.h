@@ -11,9 +11,9 @@
  *
  * Every function returns 0, or the number of the refusal (enum ring_refusal). All else is told in the result slice, of
  * 80 bytes or more: ten 64-bit little-endian words at its start (RING_WORD_..), with 0 in those that a call doesn't
- * use; bytes from 80 on are kept. A refused call has changed no byte of image, ledger, tape or list. With a result
- * slice under 80 bytes nothing is performed and nothing is written: the call returns the first refusal of its tests,
- * else RING_REFUSED_OUTPUT.
+ * use; bytes from 80 on are kept. A refused call has changed no byte of image, ledger, tape, list or output. With a
+ * result slice under 80 bytes nothing is performed and nothing is written: the call returns the first refusal of its
+ * tests, else RING_REFUSED_OUTPUT.
  */
 #ifndef VENGLOAZ_H
 #define VENGLOAZ_H
@@ -121,18 +121,20 @@ enum ring_outcome {
 /* ---- sizes, in bytes where nothing else is said */
 
 enum ring_size {
-    RING_LEAST = 2,           /* processes */
-    RING_MOST = 64,           /* processes */
-    RING_HEADER_SIZE = 16,    /* of an image; the process records follow */
-    RING_PROCESS_SIZE = 8,    /* a process record */
+    RING_LEAST = 2,             /* processes */
+    RING_MOST = 64,             /* processes */
+    RING_HEADER_SIZE = 16,      /* of an image; the process records follow */
+    RING_PROCESS_SIZE = 8,      /* a process record */
     RING_EVENT_SIZE = 8,
     RING_BLOCK_SIZE = 512,
-    RING_BLOCK_EVENTS = 63,   /* slots */
-    RING_MOST_BLOCKS = 65536, /* of a tape */
-    RING_RECORD_SIZE = 12,    /* a ledger record */
+    RING_BLOCK_EVENTS = 63,     /* slots */
+    RING_MOST_BLOCKS = 65536,   /* of a tape */
+    RING_MOST_EVENTS = 4128768, /* of a list, a tape or a load */
+    RING_RECORD_SIZE = 12,      /* a ledger record */
     RING_RESULT_SIZE = 80
 };
 
+/* Of an image of n processes, and of the tape of so many events; both presume numbers that aren't refused. */
 #define RING_IMAGE_SIZE(n) (RING_HEADER_SIZE + RING_PROCESS_SIZE * (n))
 #define RING_TAPE_SIZE(events) (RING_BLOCK_SIZE * (((events) + RING_BLOCK_EVENTS - 1) / RING_BLOCK_EVENTS))
 

@@ -68,6 +68,14 @@ module _ (n seed count : ℕ) (fine : given n seed count ≡ Fine) where
       go true = refl
       go false = refl
 
+  -- whatever has its bytes has the event
+  event-of : (k : ℕ) (s : List ℕ) (at : ℕ) → part s at 8 ≡ eventBytes (loadEvent n seed k)
+      → eventIn s at ≡ loadEvent n seed k
+  event-of k s at same =
+      let v = loadEvent n seed k in
+      same-event s (eventBytes v) at 0 (same ∙ sym (own-part v))
+      ∙ bytes-read v (omega (arith, message-within seed (bounds .some) (bounds .seeds) n k))
+
   module _ (k : ℕ) (within : k < count) where
     -- its bytes in the list
     event-listed : part list (8 * k) 8 ≡ eventBytes (loadEvent n seed k)
@@ -84,16 +92,7 @@ module _ (n seed count : ℕ) (fine : given n seed count ≡ Fine) where
     event-taped = slot-written list k (omega (arith, long)) ∙ event-listed
 
     pub event-loaded : eventIn (loadTape n seed count) (slotAt (k / 63) (k % 63)) ≡ loadEvent n seed k
-    event-loaded =
-        let v = loadEvent n seed k in
-        same-event (loadTape n seed count) (eventBytes v) (slotAt (k / 63) (k % 63)) 0 (event-taped ∙ sym (own-part v))
-        ∙ bytes-read v (omega (arith, message-within seed (bounds .some) (bounds .seeds) n k))
-
-    event-read : eventIn list (8 * k) ≡ loadEvent n seed k
-    event-read =
-        let v = loadEvent n seed k in
-        same-event list (eventBytes v) (8 * k) 0 (event-listed ∙ sym (own-part v))
-        ∙ bytes-read v (omega (arith, message-within seed (bounds .some) (bounds .seeds) n k))
+    event-loaded = event-of k (loadTape n seed count) (slotAt (k / 63) (k % 63)) event-taped
 
   -- ---- the list and the tape, for any number of codes from 8 on
 
@@ -127,7 +126,8 @@ module _ (n seed count : ℕ) (fine : given n seed count ≡ Fine) where
   load-runs =
       let all : length list / 8 ≡ count = omega (arith, long) in
       rw (load-read, all)
-      (tabulate-same (λ k. eventIn list (8 * k)) (loadEvent n seed) 0 count (λ k low high. event-read k (omega arith)))
+      (tabulate-same (λ k. eventIn list (8 * k)) (loadEvent n seed) 0 count
+      (λ k low high. event-of k list (8 * k) (event-listed k (omega arith))))
 
   -- ---- the call, and what the reader makes of it
 

@@ -5,6 +5,7 @@
 //! or a marker that was left on makes the envelope go round.
 
 use crate::{fresh, load};
+use std::fmt;
 
 /// The rings whose loads are looked at, from home 0, and the seeds.
 pub const SIZES: [u64; 5] = [2, 4, 8, 16, 64];
@@ -23,6 +24,16 @@ pub enum End {
     GoesRound,
     /// Something may still be filled or taken where the longest load ends.
     Lives,
+}
+
+impl fmt::Display for End {
+    fn fmt(&self, out: &mut fmt::Formatter<'_>) -> fmt::Result {
+        match self {
+            End::Dies(last) => write!(out, "dies: the last event that isn't idle has number {last}"),
+            End::GoesRound => write!(out, "goes round: nothing is filled or taken any more"),
+            End::Lives => write!(out, "lives to the end of the longest load"),
+        }
+    }
 }
 
 /// The end of the longest load for N from this seed, performed on the fresh ring with home 0.
@@ -107,6 +118,36 @@ pub fn row(n: u64) -> String {
         [first, ..] => [*first, last[(last.len() - 1) / 2], last[last.len() - 1]].map(with_commas),
     };
     format!("| {n} | {} | {earliest} | {median} | {latest} | {round} |\n", last.len())
+}
+
+/// The rings of which one long load is compared with short ones, and how many of these have as many events.
+pub const COMPARED: [u64; 3] = [4, 8, 64];
+const SHORT_LOADS: u64 = PARTS as u64;
+
+/// The second table's head.
+pub const COMPARED_HEAD: &str = "\
+| N | one load: taken | not idle | short loads: taken | not idle |
+|---|---|---|---|---|
+";
+
+/// The second table's row for N: the messages taken and the events that aren't idle, in the longest load from seed 1
+/// and in 1,024 loads of 4,032 events from the seeds 1 to 1,024, each performed on the fresh ring with home 0.
+pub fn compared_row(n: u64) -> String {
+    let long = tested(n, 1, PARTS * PART);
+    let short = (1..=SHORT_LOADS).map(|seed| tested(n, seed, PART));
+    let short = short.fold([0, 0], |[taken, moving], [more, also]| [taken + more, moving + also]);
+    let [taken, moving, taken_short, moving_short] = [long[0], long[1], short[0], short[1]].map(with_commas);
+    format!("| {n} | {taken} | {moving} | {taken_short} | {moving_short} |\n")
+}
+
+/// The messages taken in a load, and its events that aren't idle.
+fn tested(n: u64, seed: u64, events: usize) -> [usize; 2] {
+    let mut result = [0; 80];
+    let mut ledger = vec![0; 12 * events];
+    let run = plain::ring_run::<0>(&mut fresh(n, 0), &load(n, seed, events), &mut ledger, &mut result);
+    assert_eq!(run, 0);
+    let word = |k: usize| u64::from_le_bytes(result.as_chunks().0[k]) as usize;
+    [word(3), events - word(6)]
 }
 
 fn with_commas(number: usize) -> String {

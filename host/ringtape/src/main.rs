@@ -4,9 +4,10 @@
 //! ringtape make   < TEXT > INPUT    the bytes of a readable text
 //! ringtape show   < INPUT > TEXT    the reverse; an input that ringrun refuses comes as comments
 //! ringtape expect < INPUT           what ringrun must print, by plain Rust
-//! ringtape load N HOME SEED COUNT [--tape] > INPUT
-//!                                   a load: COUNT events drawn from SEED; with --tape the bare tape,
-//!                                   which may be longer than ringrun takes
+//! ringtape load N HOME SEED COUNT > INPUT
+//!                                   a load: COUNT events drawn from SEED
+//! ringtape load --tape N HOME SEED COUNT > TAPE
+//!                                   its tape alone, which may be longer than ringrun takes
 //! ```
 //!
 //! A text has a first line `N HOME`, then events parted by blanks or line feeds: `process.code`, and
@@ -14,8 +15,9 @@
 //! that ringrun accepts, `make` turns into the same bytes.
 //!
 //! A text that isn't understood gets one line on standard error, with its line number, and exit
-//! status 1; so does a load that is refused, with its number, and a failed read or write. An argument
-//! that is no decimal number of 64 bits gets a line and exit status 2, another use the usage and 2.
+//! status 1; so does a load that is refused, with its number, and a failed read or write. A load of too
+//! few or too many words, or with one that is no decimal number of 64 bits, gets a line and exit status 2,
+//! another use the usage and 2.
 
 mod load;
 mod make;
@@ -28,9 +30,10 @@ const USAGE: &str = "\
 usage: ringtape make   < TEXT > INPUT    the bytes of a readable text
        ringtape show   < INPUT > TEXT    the reverse; an input that ringrun refuses comes as comments
        ringtape expect < INPUT           what ringrun must print, by plain Rust
-       ringtape load N HOME SEED COUNT [--tape] > INPUT
-                                         a load: COUNT events drawn from SEED; with --tape the bare tape,
-                                         which may be longer than ringrun takes
+       ringtape load N HOME SEED COUNT > INPUT
+                                         a load: COUNT events, 1 to 4032, drawn from SEED, 1 to 2147483646
+       ringtape load --tape N HOME SEED COUNT > TAPE
+                                         its tape alone, without N and HOME; COUNT may be up to 4128768
 ";
 
 /// Why a command isn't done.

@@ -131,14 +131,20 @@ fn what_is_not_understood_is_named_with_its_line() {
 
 #[test]
 fn other_words_get_the_usage() {
-    let loads =
-        ["", "4 0 1", "4 0 1 63 63", "4 0 --tape 1 63", "--tape 4 1 63", "--tape 4 0 1 63 --tape", "4 0 1 63 --bare"];
-    let loads = loads.map(load_words);
-    let loads = loads.iter().map(|words| &words[..]);
-    for words in [&[][..], &["mak"], &["show", "file"], &["load"]].into_iter().chain(loads) {
+    for words in [&[][..], &["mak"], &["show", "file"]] {
         let Output { status, stdout, stderr } = ringtape(words, b"");
         assert_eq!((status.code(), stdout.len()), (Some(2), 0));
         assert!(stderr.starts_with(b"usage: ringtape make "));
+    }
+}
+
+#[test]
+fn a_load_of_other_words_is_told_what_it_takes() {
+    for words in
+        ["", "4 0 1", "4 0 1 63 63", "4 0 --tape 1 63", "--tape 4 1 63", "--tape 4 0 1 63 --tape", "4 0 1 63 --bare"]
+    {
+        let line = one_line(ringtape(&load_words(words), b""), 2);
+        assert_eq!(line, format!("load takes N HOME SEED COUNT, and --tape before or behind them: {words}"));
     }
 }
 
@@ -177,45 +183,39 @@ fn a_load_is_shown() {
 /// A refusal has its number and exit status 1; of several, N comes first, then HOME, SEED and COUNT.
 #[test]
 fn a_load_is_refused_with_its_number() {
-    let [n, home, seed] = ["N is not 2 to 64", "home is not below N", "the seed is not 1 to 2147483646"];
-    let length = "the length is wrong: a tape has 1 to 65536 whole blocks of 512 bytes, a list or load 1 to 4128768 \
-                  events, and ringrun takes up to 64 blocks";
     let refused = [
-        ("1 0 1 63", 1, n),
-        ("65 0 1 63", 1, n),
-        ("258 0 1 63", 1, n),
-        ("4294967300 9 0 0", 1, n),
-        ("4 4 1 63", 2, home),
-        ("4 256 1 63", 2, home),
-        ("4 4294967296 0 0", 2, home),
-        ("4 0 0 63", 11, seed),
-        ("4 0 2147483647 0", 11, seed),
-        ("4 0 4294967297 18446744073709551615", 11, seed),
-        ("4 0 0 4033", 11, seed),
-        ("4 0 1 0", 6, length),
-        ("4 0 1 4128769", 6, length),
-        ("4 0 1 4294967297", 6, length),
-        ("4 0 1 18446744073709551615", 6, length),
+        ("1 0 1 63", "1 at 0: N is not 2 to 64: 1"),
+        ("65 0 1 63", "1 at 0: N is not 2 to 64: 65"),
+        ("258 0 1 63", "1 at 0: N is not 2 to 64: 258"),
+        ("4294967300 9 0 0", "1 at 0: N is not 2 to 64: 4294967300"),
+        ("4 4 1 63", "2 at 0: HOME is not below N = 4: 4"),
+        ("4 256 1 63", "2 at 0: HOME is not below N = 4: 256"),
+        ("4 4294967296 0 0", "2 at 0: HOME is not below N = 4: 4294967296"),
+        ("4 0 0 63", "11 at 0: SEED is not 1 to 2147483646: 0"),
+        ("4 0 2147483647 0", "11 at 0: SEED is not 1 to 2147483646: 2147483647"),
+        ("4 0 4294967297 18446744073709551615", "11 at 0: SEED is not 1 to 2147483646: 4294967297"),
+        ("4 0 0 4033", "11 at 0: SEED is not 1 to 2147483646: 0"),
     ];
-    for (words, number, what) in refused {
-        let line = format!("refused {number} at 0: {what}");
-        assert_eq!(one_line(ringtape(&load_words(words), b""), 1), line, "{words}");
-        let bare = format!("{words} --tape");
-        assert_eq!(one_line(ringtape(&load_words(&bare), b""), 1), line, "{bare}");
+    for (words, what) in refused {
+        for words in [words.to_string(), format!("{words} --tape"), format!("--tape {words}")] {
+            assert_eq!(one_line(ringtape(&load_words(&words), b""), 1), format!("refused {what}"), "{words}");
+        }
     }
 }
 
+/// No events, or too many: for ringrun from 4,033 on, and for a tape from 4,128,769.
 #[test]
-fn a_load_that_ringrun_would_refuse_is_not_written() {
+fn a_load_of_no_or_too_many_events_is_refused() {
     assert_eq!(loaded("4 0 1 4032").len(), 2 + 64 * 512);
-    for count in ["4033", "4128768"] {
+    for count in ["0", "4033", "4128768", "4128769", "4294967297", "18446744073709551615"] {
         let line = one_line(ringtape(&["load", "4", "0", "1", count], b""), 1);
-        let due = format!(
-            "refused 6 at 0: {count} events are more than the 4032 that ringrun takes; --tape writes up to 4128768"
-        );
-        assert_eq!(line, due);
+        assert_eq!(line, format!("refused 6 at 0: COUNT is not 1 to 4032, or with --tape to 4128768: {count}"));
     }
     assert_eq!(loaded("4 0 1 4033 --tape").len(), 65 * 512);
+    for count in ["0", "4128769", "4294967297", "18446744073709551615"] {
+        let line = one_line(ringtape(&["load", "--tape", "4", "0", "1", count], b""), 1);
+        assert_eq!(line, format!("refused 6 at 0: COUNT is not 1 to 4128768: {count}"));
+    }
 }
 
 #[test]

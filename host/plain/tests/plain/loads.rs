@@ -1,7 +1,7 @@
 //! Loads against document 02: what is drawn, the refusals and their order, and when loads die.
 
 use crate::support::*;
-use guide::deaths::{end, row, End, HEAD, SIZES};
+use guide::deaths::{compared_row, end, row, End, COMPARED, COMPARED_HEAD, HEAD, SIZES};
 
 /// The greatest seed, and the most events of a load.
 const MOST_SEED: u64 = 2_147_483_646;
@@ -157,10 +157,17 @@ fn a_known_load_goes_round() {
     assert!(!stopped(&image) && answer.words[6] < 990_000);
 }
 
-/// The table of the README is what is measured.
+/// The tables of the README are what is measured, and so is the load that it names.
 #[test]
 fn the_readme_has_when_loads_die() {
-    let table: String = [HEAD.to_string()].into_iter().chain(SIZES.map(row)).collect();
     let readme = include_str!("../../../../README.md");
-    assert!(readme.contains(&format!("\n\n{table}\n")), "the table must be:\n{table}");
+    let tables: [String; 2] = [
+        [HEAD.to_string()].into_iter().chain(SIZES.map(row)).collect(),
+        [COMPARED_HEAD.to_string()].into_iter().chain(COMPARED.map(compared_row)).collect(),
+    ];
+    for table in tables {
+        assert!(readme.contains(&format!("\n\n{table}\n")), "the table must be:\n{table}");
+    }
+    assert!(readme.contains("N = 8 and seed 20,261,117 with event 4,570"));
+    assert_eq!(end(8, 20_261_117), End::Dies(4_570));
 }

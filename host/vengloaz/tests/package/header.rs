@@ -99,6 +99,9 @@ fn sizes(numbers: &Numbers) {
     let refused = |blocks: usize| run(&mut ring(), &vec![0; blocks * block], &mut []);
     assert_eq!(refused(most), Err(Refusal::BlockNumber { block: 0 }));
     assert_eq!(refused(most + 1), Err(Refusal::Length));
+    let most = numbers.of("MOST_EVENTS") as u64;
+    assert_eq!(load(2, 1, most).map(|tape| tape.len()), Ok(numbers.of("MOST_BLOCKS") * block));
+    assert_eq!(load(2, 1, most + 1), Err(Refusal::Length));
 
     assert_eq!(ledger(ENTRY).len(), 4 * numbers.of("RECORD_SIZE"));
     let least = numbers.of("RESULT_SIZE");
