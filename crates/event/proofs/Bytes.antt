@@ -1,8 +1,8 @@
--- An event's bytes as code reads and tests them give the rule's event and the rule's test: each is read where the rule
--- reads it.
-use Prim.Native.Nat.{ℕ, _+_}
+-- An event's bytes as code reads, tests and writes them are the rule's event, test and bytes: each is read and written
+-- where the rule has it.
+use Prim.Native.Nat.{ℕ, _+_, _≤_}
 use mathlib.Core.Path.{_≡_, sym, _∙_}
-use mathlib.Core.List.{List}
+use mathlib.Core.List.{List, [], _∷_}
 use mathlib.Core.Bool.{Bool, true, false, _&&_, _||_}
 use native.Mathlib.Omega.{arith}
 use lib.ListN.{length, getD}
@@ -10,10 +10,11 @@ use lib.Dec.{eqb, ltb}
 use borrow.Author.Tests.{ne-eqb}
 use Rattle.machine.specs.declared.Refusal.the-variants as refusal
 use Rattle.machine.specs.declared.Verdict.the-variants.{Fine, Refused}
-use Rattle.machine.specs.Bytes.{number}
-use Rattle.machine.specs.Tape.{eventIn}
+use Rattle.machine.specs.Bytes.{number, bytes, splice}
+use Rattle.machine.specs.Events.{Event}
+use Rattle.machine.specs.Tape.{eventIn, eventBytes}
 use Rattle.machine.specs.Refusals.{codes, eventFits, eventVerdict}
-use Rattle.machine.proofs.Laws.Bytes.{zeros-2, zeros-number}
+use Rattle.machine.proofs.Laws.Bytes.{zeros-2, zeros-number, splice-next}
 use Rattle.event.specs.Parsed.{eventOf}
 
 module _ (s : List ℕ) (at : ℕ) {process message : ℕ} (first : process ≡ getD s at 0)
@@ -30,6 +31,14 @@ module _ (s : List ℕ) (at : ℕ) {process message : ℕ} (first : process ≡ 
   pub event-read : record { process = process; code = getD s (at + 1) 0; message = message } ≡ eventOf (eventIn s at)
   unfolding eventIn
   event-read = rw (first, last)
+
+-- written in two stores, of which the second is the message
+pub event-written : (t : List ℕ) (at : ℕ) (v : Event) {one two : List ℕ} → at ≤ length t
+    → one ≡ splice t at (v .process ∷ v .code ∷ 0 ∷ 0 ∷ [])
+    → two ≡ splice one (at + 4) (bytes 4 (v .message))
+    → two ≡ splice t at (eventBytes v)
+event-written t at v room head message =
+    rw (message, head) (splice-next t at (v .process ∷ v .code ∷ 0 ∷ 0 ∷ []) (bytes 4 (v .message)) room)
 
 module _ (n : ℕ) (s : List ℕ) where
   pub ragged-refused : (length s ≡ 8 → ⊥) → Refused (refusal.Event 0) ≡ eventVerdict codes n s

@@ -1,8 +1,10 @@
-// An event as a struct by value: read from eight bytes, tested, and applied to the header and its process's record.
-// What it does comes back by value too, the only place where an event's effect is decided.
-// Document 01, "The eight events".
+// An event as a struct by value: read from eight bytes and written, tested, and applied to the header and its process's
+// record. What it does comes back by value too, the only place where an event's effect is decided. Document 01, "The
+// eight events".
 use little_endian::eight_at;
 use little_endian::number_at;
+use little_endian::put_four;
+use little_endian::put_number;
 use little_endian::wide;
 use little_endian::wide64;
 use machine::Outcome;
@@ -17,11 +19,12 @@ use record::process::Record;
 ghost use mathlib.Core.Path.{_≡_};
 ghost use Prim.Native.Nat.{_+_, _≤_, _<_};
 ghost use lib.ListN.{length};
-ghost use Rattle.machine.specs.Tape.{eventIn};
+ghost use Rattle.machine.specs.Bytes.{splice};
+ghost use Rattle.machine.specs.Tape.{eventIn, eventBytes};
 ghost use Rattle.machine.specs.Refusals.{codes as known, eventFits, eventVerdict};
 ghost use Rattle.machine.specs.Events as rule;
 ghost use Rattle.record.specs.Words.{stageOf, shownProcess, shownEnvelope, Tidy, TidyHeader};
-ghost use Rattle.event.specs.Parsed.{eventOf};
+ghost use Rattle.event.specs.Parsed.{eventOf, ruled};
 ghost use Rattle.event.specs.Rows.{codesAt, needOf, startedBy, rowOf, Possible};
 ghost use Rattle.event.specs.Applied.{worked, Applicable, Reacts};
 
@@ -228,6 +231,15 @@ impl Event {
             code: bytes[at + 1],
             message: number_at(bytes, at + 4),
         }
+    }
+
+    // Internal: the event's eight bytes, written from `at` on.
+    pub fn put(self, bytes: &mut [u8], at: usize)
+        requires { ⌜ (self .process < 256) × (at + 8 ≤ length (now bytes)) ⌝ }
+        ensures { λ _. ⌜ now (bytes .exit) ≡ splice (now (bytes .entry)) at (eventBytes (ruled self)) ⌝ }
+    {
+        put_four(bytes, at, self.process as u8, self.code, 0, 0);
+        put_number(bytes, at + 4, self.message);
     }
 
     // Internal: the verdict of a single event for n processes: refused with 5 at 0.

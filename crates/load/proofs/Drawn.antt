@@ -3,11 +3,12 @@
 use Prim.Native.Nat.{ℕ, _+_, _-_, _*_, _/_, _%_, _≤_, _<_}
 use mathlib.Core.Path.{_≡_, sym, ap, ap₂, _∙_}
 use mathlib.Core.Bool.{cond}
-use mathlib.Core.List.{List, [], _∷_}
+use mathlib.Core.List.{List}
 use native.Mathlib.Omega.{arith}
 use native.Mathlib.Nat.{mul-add-mod-self-left, mod-eq-of-lt, mod-lt}
 use lib.ListN.{length}
 use lib.Dec.{eqb}
+use borrow.Author.Tests.{eq-eqb, ne-eqb}
 use Rattle.machine.specs.Bytes.{part, bytes, splice}
 use Rattle.machine.specs.Lists.{tabulate}
 use Rattle.machine.specs.Tape.{eventBytes, listBytes, blockBytes, padded, blockFor}
@@ -34,17 +35,30 @@ left-over product q rest is few =
 pub process-small : (first n : ℕ) → 1 ≤ n → n ≤ 64 → first % n < 256
 process-small first n some few = omega (arith, mod-lt first some)
 
-pub event-drawn : (n seed : ℕ) (t : List ℕ) (at : ℕ) {first second third : ℕ} {one two : List ℕ} → at + 8 ≤ length t
-    → first ≡ next seed
-    → second ≡ next first
-    → one ≡ splice t at (first % n ∷ second % 8 ∷ 0 ∷ 0 ∷ [])
-    → two ≡ splice one (at + 4) (bytes 4 (cond (eqb (second % 8) 0) (next second) 0))
-    → third ≡ next second
-    → (two ≡ splice t at (eventBytes (loadEvent n seed 0))) × (third ≡ drawn seed 3)
-unfolding loadEvent eventBy drawn
-event-drawn n seed t at room a b head message c =
-    let four = next seed % n ∷ next (next seed) % 8 ∷ 0 ∷ 0 ∷ [] in
-    (rw (message, head, b, a) (splice-next t at four (bytes 4 _) (omega arith)), rw (c, b, a))
+-- three numbers drawn, and the event that they make, written with a message or without
+module _ (n seed : ℕ) (t : List ℕ) (at : ℕ) {first second third : ℕ} (a : first ≡ next seed) (b : second ≡ next first)
+    (c : (third ≡ next second) × (third ≤ 2147483646)) where
+  -- what is said of the tape and of the number drawn last
+  abbrev Drew : List ℕ → Type 0
+  Drew u =
+      (u ≡ splice t at (eventBytes (loadEvent n seed 0))) × (third ≡ drawn seed 3) × (third ≤ 2147483646)
+
+  -- by the message
+  drew : {u : List ℕ} (message : ℕ) → message ≡ cond (eqb (second % 8) 0) third 0
+      → u ≡ splice t at (eventBytes record { process = first % n; code = second % 8; message = message })
+      → Drew u
+  unfolding loadEvent eventBy drawn
+  drew message is wrote = (rw (wrote, is, c .0, b, a), rw (c .0, b, a), c .1)
+
+  pub drew-with : {u : List ℕ} → second % 8 ≡ 0
+      → u ≡ splice t at (eventBytes record { process = first % n; code = second % 8; message = third })
+      → Drew u
+  drew-with is = drew third (rw (eq-eqb (second % 8) 0 is))
+
+  pub drew-without : {u : List ℕ} → (second % 8 ≡ 0 → ⊥)
+      → u ≡ splice t at (eventBytes record { process = first % n; code = second % 8; message = 0 })
+      → Drew u
+  drew-without other = drew 0 (rw (ne-eqb (second % 8) 0 other))
 
 -- ---- events, one after the other
 

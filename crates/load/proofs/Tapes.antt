@@ -61,7 +61,7 @@ module _ (n seed count : ℕ) (fine : given n seed count ≡ Fine) where
   event-fits codes enough k =
       let a = drawn seed (3 * k + 1) in
       let b = drawn seed (3 * k + 2) in
-      let some : 1 ≤ n = omega (arith, bounds .least) in
+      let some : 1 ≤ n = omega (arith, bounds .size-least) in
       rw (lt-ltb (a % n) n (mod-lt a some), lt-ltb (b % 8) codes (omega arith)) (go (eqb (b % 8) 0))
     where
       go : (t : Bool) → t || allZero (bytes 4 (cond t (drawn seed (3 * k + 3)) 0)) ≡ true
@@ -74,7 +74,7 @@ module _ (n seed count : ℕ) (fine : given n seed count ≡ Fine) where
   event-of k s at same =
       let v = loadEvent n seed k in
       same-event s (eventBytes v) at 0 (same ∙ sym (own-part v))
-      ∙ bytes-read v (omega (arith, message-within seed (bounds .some) (bounds .seeds) n k))
+      ∙ bytes-read v (omega (arith, message-within seed (bounds .seed-least) (bounds .seed-most) n k))
 
   module _ (k : ℕ) (within : k < count) where
     -- its bytes in the list
@@ -102,8 +102,8 @@ module _ (n seed count : ℕ) (fine : given n seed count ≡ Fine) where
         fine-list codes n list
         record {
           whole = omega (arith, long);
-          some = omega (arith, long, bounds .one);
-          most = omega (arith, long, bounds .events);
+          some = omega (arith, long, bounds .count-least);
+          most = omega (arith, long, bounds .count-most);
           events =
               λ k h.
               let v = loadEvent n seed k in

@@ -19,7 +19,7 @@ use Rattle.machine.specs.Answers.{answer}
 use Rattle.machine.specs.Load.{loadEvents, loadTape, loadVerdict, loadAnswer, loadOutput}
 use Rattle.machine.proofs.Laws.Lists.{and-first, and-second}
 use Rattle.machine.proofs.Laws.Refusals.{else-else, first-fine, second-fine, unless-fine}
-use Rattle.machine.proofs.Laws.Refusals.{inputs-refuse, output-refuses, all-fine}
+use Rattle.machine.proofs.Laws.Filling.{inputs-refused, room-refused, output-filled}
 use Rattle.machine.proofs.Loads.{length-load, length-load-tape}
 
 -- its answer and its output are the rule's
@@ -29,12 +29,12 @@ Loaded n seed count output v values out =
 
 -- what a fine verdict says of the three numbers
 pub record Given (n seed count : ℕ) : Type 0 where
-  pub least : 2 ≤ n
-  pub most : n ≤ 64
-  pub some : 1 ≤ seed
-  pub seeds : seed ≤ 2147483646
-  pub one : 1 ≤ count
-  pub events : count ≤ 4128768
+  pub size-least : 2 ≤ n
+  pub size-most : n ≤ 64
+  pub seed-least : 1 ≤ seed
+  pub seed-most : seed ≤ 2147483646
+  pub count-least : 1 ≤ count
+  pub count-most : count ≤ 4128768
 
 module _ (n seed count : ℕ) where
   -- the verdict of the seed and the count
@@ -53,38 +53,31 @@ module _ (n seed count : ℕ) where
       let from = unless-fine _ refusal.Seed (first-fine (seedVerdict seed) (countVerdict count) two) in
       let few = unless-fine _ refusal.Length (second-fine (seedVerdict seed) (countVerdict count) two) in
       record {
-        least = leb-true 2 n (and-first _ (leb n 64) size);
-        most = leb-true n 64 (and-second (leb 2 n) _ size);
-        some = leb-true 1 seed (and-first _ (leb seed 2147483646) from);
-        seeds = leb-true seed 2147483646 (and-second (leb 1 seed) _ from);
-        one = leb-true 1 count (and-first _ (leb count 4128768) few);
-        events = leb-true count 4128768 (and-second (leb 1 count) _ few);
+        size-least = leb-true 2 n (and-first _ (leb n 64) size);
+        size-most = leb-true n 64 (and-second (leb 2 n) _ size);
+        seed-least = leb-true 1 seed (and-first _ (leb seed 2147483646) from);
+        seed-most = leb-true seed 2147483646 (and-second (leb 1 seed) _ from);
+        count-least = leb-true 1 count (and-first _ (leb count 4128768) few);
+        count-most = leb-true count 4128768 (and-second (leb 1 count) _ few);
       }
 
 module _ (n seed count : ℕ) (output : List ℕ) where
-  abbrev needed : ℕ
-  needed = length (loadTape n seed count)
-
-  abbrev both : Verdict
-  both = numbers n seed count
-
-  -- the rule's tests, the three numbers first
-  pub in-turn : loadVerdict n seed count output ≡ orElse (sizeVerdict n) (orElse both (outputVerdict needed output))
+  -- which come first, then the room
+  pub in-turn : loadVerdict n seed count output
+      ≡ orElse (given n seed count) (outputVerdict (length (loadTape n seed count)) output)
   unfolding loadVerdict
   in-turn =
-      ap (orElse (sizeVerdict n)) (else-else (seedVerdict seed) (countVerdict count) (outputVerdict needed output))
-
-  -- refused by the rule's verdict
-  refused : {r : Refusal} → loadVerdict n seed count output ≡ Refused r
-      → Loaded n seed count output (Refused r) [] output
-  unfolding loadAnswer loadOutput
-  refused is = (rw is, rw is)
+      let room = outputVerdict (length (loadTape n seed count)) output in
+      ap (orElse (sizeVerdict n)) (else-else (seedVerdict seed) (countVerdict count) room)
+      ∙ else-else (sizeVerdict n) (numbers n seed count) room
 
   pub load-refused : {r : Refusal} → given n seed count ≡ Refused r → Loaded n seed count output (Refused r) [] output
-  load-refused e = refused (in-turn ∙ inputs-refuse (sizeVerdict n) both needed output e)
+  unfolding loadAnswer loadOutput
+  load-refused =
+      inputs-refused (given n seed count) (loadVerdict n seed count output) (loadTape n seed count) output in-turn
 
   module _ (fine : given n seed count ≡ Fine) {blocks : ℕ} (all : blocks ≡ blocksFor count) where
-    long : 512 * blocks ≡ needed
+    long : 512 * blocks ≡ length (loadTape n seed count)
     long = omega (arith, all, length-load-tape n seed count)
 
     -- the blocks, one after the other
@@ -96,13 +89,15 @@ module _ (n seed count : ℕ) (output : List ℕ) where
         rw (all, events)
 
     pub load-short : length output < 512 * blocks → Loaded n seed count output (Refused refusal.Output) [] output
-    load-short few =
-        refused (in-turn ∙ output-refuses (sizeVerdict n) both needed output fine (omega (arith, long)))
+    unfolding loadAnswer loadOutput
+    load-short =
+        room-refused (given n seed count) (loadVerdict n seed count output) (loadTape n seed count) output in-turn fine
+        long
 
     pub load-done : {t : List ℕ} → 512 * blocks ≤ length output
         → t ≡ splice output 0 (join (tabulate (blockFor (listBytes (loadEvents n seed count))) 0 blocks))
         → Loaded n seed count output Fine (512 * blocks ∷ []) t
     unfolding loadAnswer loadOutput
     load-done room wrote =
-        let is = in-turn ∙ all-fine (sizeVerdict n) both needed output fine (omega (arith, long)) in
-        (rw (is, long), wrote ∙ rw (is, blocks-are))
+        output-filled (given n seed count) (loadVerdict n seed count output) (loadTape n seed count) output in-turn fine
+        long room (wrote ∙ ap (splice output 0) blocks-are)

@@ -1,7 +1,6 @@
 // The load call: a tape of events drawn from a seed, which anyone can repeat. Document 02, A.1.
+use event::Event;
 use image::Ring;
-use little_endian::put_four;
-use little_endian::put_number;
 use machine::Refusal;
 use machine::Verdict;
 use numbers::refusal_of;
@@ -11,12 +10,11 @@ use pack::width_in;
 use tape::Filled;
 ghost use mathlib.Core.Path.{_≡_};
 ghost use Prim.Native.Nat.{_+_, _*_, _≤_, _<_};
-ghost use mathlib.Core.Bool.{cond, _&&_};
 ghost use lib.ListN.{length};
-ghost use lib.Dec.{eqb, leb};
-ghost use Rattle.machine.specs.Bytes.{bytes, splice};
+ghost use Rattle.machine.specs.Bytes.{splice};
 ghost use Rattle.machine.specs.Tape.{eventBytes, listBytes, blockFor};
 ghost use Rattle.machine.specs.Lists.{join, tabulate};
+ghost use Rattle.machine.specs.Lists as rules;
 ghost use Rattle.machine.specs.Refusals.{orElse, sizeVerdict, seedVerdict, countVerdict};
 ghost use Rattle.machine.specs.Load.{drawn, loadEvent, loadEvents, loadAnswer, loadOutput};
 ghost use Rattle.machine.specs.Load as rule;
@@ -44,24 +42,8 @@ pub fn next(last: u64) -> u64
     if sum <= MOST { sum } else { sum - MODULUS }
 }
 
-// The third draw, after this number, for an event with this code, whose message stands at `at` of a tape. It is made
-// with every code, and is the message with code 0.
-fn draw_message(second: u64, code: u64, tape: &mut [u8], at: usize) -> u64
-    requires { ⌜ (second ≤ 2147483646) × (at + 4 ≤ length (now tape)) ⌝ }
-    ensures { λ r. ⌜ (now (tape .exit)
-        ≡ splice (now (tape .entry)) at (bytes 4 (cond (eqb code 0) (rule.next second) 0)))
-        × (r ≡ rule.next second) × (r ≤ 2147483646) ⌝ }
-{
-    let third = next(second);
-    if code == 0 {
-        put_number(tape, at, third as u32);
-        return third;
-    }
-    put_number(tape, at, 0);
-    third
-}
-
-// The first event of a load for n processes, at `at` of a tape; answered is the number drawn last.
+// The first event of a load for n processes, at `at` of a tape; answered is the number drawn last. A third number is
+// drawn for every event, and is the message of code 0.
 fn draw_event(n: u64, seed: u64, tape: &mut [u8], at: usize) -> u64
     requires { ⌜ (1 ≤ n) × (n ≤ 64) × (seed ≤ 2147483646) × (at + 8 ≤ length (now tape)) ⌝ }
     ensures { λ r. ⌜ (now (tape .exit) ≡ splice (now (tape .entry)) at (eventBytes (loadEvent n seed 0)))
@@ -69,9 +51,25 @@ fn draw_event(n: u64, seed: u64, tape: &mut [u8], at: usize) -> u64
 {
     let first = next(seed);
     let second = next(first);
-    let code = second % CODES;
-    put_four(tape, at, (first % n) as u8, code as u8, 0, 0);
-    draw_message(second, code, tape, at + 4)
+    let third = next(second);
+    let process = (first % n) as usize;
+    let code = (second % CODES) as u8;
+    if code == 0 {
+        let with = Event {
+            process: process,
+            code: code,
+            message: third as u32,
+        };
+        with.put(tape, at);
+        return third;
+    }
+    let without = Event {
+        process: process,
+        code: code,
+        message: 0,
+    };
+    without.put(tape, at);
+    third
 }
 
 // The first events of a load, from `at` of a tape on; answered is the number drawn last.
@@ -104,7 +102,7 @@ fn draw_blocks(n: u64, seed: u64, count: usize, blocks: usize, tape: &mut [u8])
 
 // Whether a number lies between these two, or is one of them.
 fn within(number: u64, least: u64, most: u64) -> bool
-    ensures { λ r. ⌜ r ≡ leb least number && leb number most ⌝ }
+    ensures { λ r. ⌜ r ≡ rules.within least most number ⌝ }
 {
     (least <= number) & (number <= most)
 }

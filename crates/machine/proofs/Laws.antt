@@ -8,4 +8,5 @@ pub mod Joined
 pub mod Ring
 pub mod Walk
 pub mod Refusals
+pub mod Filling
 pub mod First

@@ -11,6 +11,7 @@ use Rattle.machine.specs.declared.Refusal.the-variants as refusal
 use Rattle.machine.specs.declared.Verdict.{Verdict}
 use Rattle.machine.specs.declared.Verdict.the-variants.{Fine, Refused}
 use Rattle.machine.specs.Bytes.{zeros}
+use Rattle.machine.specs.Lists.{within}
 use Rattle.machine.specs.Ring.{sizeFits, imageLength}
 use Rattle.machine.specs.Image.{sizeIn}
 use Rattle.machine.specs.Sound.{sound}
@@ -119,7 +120,7 @@ mostEvents = 63 * 65536
 
 -- the same of a number of events, where none are given
 unfoldable pub countVerdict : ℕ → Verdict
-countVerdict count = unless (leb 1 count && leb count mostEvents) refusal.Length
+countVerdict count = unless (within 1 mostEvents count) refusal.Length
 
 -- a list: 6, then its events 5
 unfoldable pub listVerdict : ℕ → ℕ → List ℕ → Verdict
@@ -173,4 +174,4 @@ outputVerdict needed output = unless (leb needed (length output)) refusal.Output
 
 -- 1 to 2,147,483,646
 unfoldable pub seedVerdict : ℕ → Verdict
-seedVerdict seed = unless (leb 1 seed && leb seed 2147483646) refusal.Seed
+seedVerdict seed = unless (within 1 2147483646 seed) refusal.Seed

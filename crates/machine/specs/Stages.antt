@@ -2,17 +2,14 @@
 -- events". At 0 nothing is wished. A put goes from 1, where main has told its wish, to 2, where it waits, to 3, where
 -- main may fill, to 4, where main has told that it did, to 5; a get likewise from 6 to 10.
 use Prim.Native.Nat.{ℕ}
-use mathlib.Core.Bool.{Bool, cond, _&&_, _||_}
-use lib.Dec.{eqb, leb}
+use mathlib.Core.Bool.{Bool, cond, _||_}
+use lib.Dec.{eqb}
+use Rattle.machine.specs.Lists.{within}
 use Rattle.machine.specs.Fields.{Status}
 
 -- stages are 0 to this
 abbrev pub lastStage : ℕ
 lastStage = 10
-
--- from low to high, both included
-abbrev pub within : ℕ → ℕ → ℕ → Bool
-within low high stage = leb low stage && leb stage high
 
 -- the put thread treats these alike
 abbrev pub plain : ℕ → Bool

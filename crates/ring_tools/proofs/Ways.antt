@@ -22,6 +22,7 @@ use Rattle.image.specs.Fresh as fresh
 use Rattle.tape.specs.declared.Filled.{Filled}
 use Rattle.tape.specs.declared.Filled.the-variants as filled-answer
 use Rattle.tape.specs.Filled as filled
+use Rattle.machine.proofs.Laws.Refusals.{else-else}
 use Rattle.load.proofs.Ways.{in-turn}
 use Rattle.numbers.specs.Verdicts.{refusalOf}
 use Rattle.numbers.proofs.Verdicts.{output-unmeasured}
@@ -70,9 +71,10 @@ module _ (result : List ℕ) (short : length result < 80) (n : ℕ) where
       → Leaves (loadAnswer n seed count output) result output (loadOutput n seed count output) m output result
   unfolding loadAnswer
   load-short seed count output =
-      rw (in-turn n seed count output)
-      (filled-short (sizeVerdict n) (orElse (seedVerdict seed) (countVerdict count)) (length (loadTape n seed count))
-      output (loadOutput n seed count output) _)
+      let numbers = orElse (seedVerdict seed) (countVerdict count) in
+      let needed = length (loadTape n seed count) in
+      rw (in-turn n seed count output, ← else-else (sizeVerdict n) numbers (outputVerdict needed output))
+      (filled-short (sizeVerdict n) numbers needed output (loadOutput n seed count output) _)
 
 -- ---- at least 80 bytes
 

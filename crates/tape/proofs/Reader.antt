@@ -13,10 +13,11 @@ use Rattle.machine.specs.declared.Verdict.the-variants.{Fine, Refused}
 use Rattle.machine.specs.Bytes.{part, splice}
 use Rattle.machine.specs.Lists.{join, tabulate}
 use Rattle.machine.specs.Tape.{blockCount, slotAt, usedSlots, listOf}
-use Rattle.machine.specs.Refusals.{orElse, codes, sizeVerdict, tapeVerdict}
+use Rattle.machine.specs.Refusals.{orElse, codes, sizeVerdict, tapeVerdict, outputVerdict}
 use Rattle.machine.specs.Answers.{answer, readVerdict, readAnswer, readOutput}
 use Rattle.machine.proofs.Laws.Bytes.{lt-or-ge}
-use Rattle.machine.proofs.Laws.Refusals.{second-fine, inputs-refuse, output-refuses, all-fine}
+use Rattle.machine.proofs.Laws.Refusals.{second-fine, else-else}
+use Rattle.machine.proofs.Laws.Filling.{inputs-refused, room-refused, output-filled}
 use Rattle.tape_test.specs.Accepted.{eventsOn, Accepted}
 use Rattle.machine.proofs.Laws.Joined.{joined-same}
 use Rattle.tape_test.proofs.Blocks.{TapeFine, tape-fine}
@@ -52,14 +53,14 @@ module _ (n : ℕ) (tape output : List ℕ) where
   abbrev given : Verdict
   given = orElse (sizeVerdict n) (tapeVerdict codes n tape)
 
-  -- refused by the rule's verdict
-  refused : {r : Refusal} → readVerdict n tape output ≡ Refused r → Read n tape output (Refused r) [] output
-  unfolding readAnswer readOutput
-  refused is = (rw is, rw is)
+  -- which comes first, then the room
+  in-turn : readVerdict n tape output ≡ orElse given (outputVerdict (length (listOf tape)) output)
+  unfolding readVerdict
+  in-turn = else-else (sizeVerdict n) (tapeVerdict codes n tape) (outputVerdict (length (listOf tape)) output)
 
   pub read-refused : {r : Refusal} → given ≡ Refused r → Read n tape output (Refused r) [] output
-  unfolding readVerdict
-  read-refused e = refused (inputs-refuse (sizeVerdict n) (tapeVerdict codes n tape) (length (listOf tape)) output e)
+  unfolding readAnswer readOutput
+  read-refused = inputs-refused given (readVerdict n tape output) (listOf tape) output in-turn
 
   module _ (fine : given ≡ Fine) where
     accepted : tapeVerdict codes n tape ≡ Fine
@@ -81,15 +82,13 @@ module _ (n : ℕ) (tape output : List ℕ) where
           (omega (arith, facts .most), omega arith)
 
       pub read-short : length output < 8 * events → Read n tape output (Refused refusal.Output) [] output
-      unfolding readVerdict
-      read-short few =
-          refused (output-refuses (sizeVerdict n) (tapeVerdict codes n tape) _ output fine (omega (arith, long)))
+      unfolding readAnswer readOutput
+      read-short = room-refused given (readVerdict n tape output) (listOf tape) output in-turn fine long
 
       pub read-done : {t : List ℕ} → 8 * events ≤ length output
           → t ≡ splice output 0 (join (tabulate (takenFrom tape (8 * events)) 0 (length tape / 512)))
           → Read n tape output Fine (8 * events ∷ []) t
-      unfolding readVerdict readAnswer readOutput
+      unfolding readAnswer readOutput
       read-done room wrote =
-          let is = all-fine (sizeVerdict n) (tapeVerdict codes n tape) (length (listOf tape)) output fine
-          (omega (arith, long)) in
-          (rw (is, long), wrote ∙ rw (is, taken-are tape (tape-fine codes n tape accepted) long))
+          output-filled given (readVerdict n tape output) (listOf tape) output in-turn fine long room
+          (wrote ∙ ap (splice output 0) (taken-are tape (tape-fine codes n tape accepted) long))

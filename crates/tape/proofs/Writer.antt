@@ -1,7 +1,7 @@
 -- Each way through the writer is that way through the rule: refused by what it is given or by the room, and done, where
 -- the blocks packed are the list's tape.
 use Prim.Native.Nat.{ℕ, _*_, _/_, _≤_, _<_}
-use mathlib.Core.Path.{_≡_, _∙_}
+use mathlib.Core.Path.{_≡_, ap, _∙_}
 use mathlib.Core.List.{List, [], _∷_}
 use native.Mathlib.Omega.{arith}
 use lib.ListN.{length}
@@ -12,9 +12,10 @@ use Rattle.machine.specs.declared.Verdict.the-variants.{Fine, Refused}
 use Rattle.machine.specs.Bytes.{splice}
 use Rattle.machine.specs.Lists.{join, tabulate}
 use Rattle.machine.specs.Tape.{blockFor, blocksFor, tapeOf}
-use Rattle.machine.specs.Refusals.{orElse, codes, sizeVerdict, listVerdict}
+use Rattle.machine.specs.Refusals.{orElse, codes, sizeVerdict, listVerdict, outputVerdict}
 use Rattle.machine.specs.Answers.{answer, writeVerdict, writeAnswer, writeOutput}
-use Rattle.machine.proofs.Laws.Refusals.{second-fine, inputs-refuse, output-refuses, all-fine}
+use Rattle.machine.proofs.Laws.Refusals.{second-fine, else-else}
+use Rattle.machine.proofs.Laws.Filling.{inputs-refused, room-refused, output-filled}
 use Rattle.tape_test.proofs.Blocks.{list-fine}
 use Rattle.machine.proofs.Tapes.{length-tape}
 
@@ -33,14 +34,14 @@ module _ (n : ℕ) (list output : List ℕ) where
   abbrev given : Verdict
   given = orElse (sizeVerdict n) (listVerdict codes n list)
 
-  -- refused by the rule's verdict
-  refused : {r : Refusal} → writeVerdict n list output ≡ Refused r → Wrote n list output (Refused r) [] output
-  unfolding writeAnswer writeOutput
-  refused is = (rw is, rw is)
+  -- which comes first, then the room
+  in-turn : writeVerdict n list output ≡ orElse given (outputVerdict (length (tapeOf list)) output)
+  unfolding writeVerdict
+  in-turn = else-else (sizeVerdict n) (listVerdict codes n list) (outputVerdict (length (tapeOf list)) output)
 
   pub write-refused : {r : Refusal} → given ≡ Refused r → Wrote n list output (Refused r) [] output
-  unfolding writeVerdict
-  write-refused e = refused (inputs-refuse (sizeVerdict n) (listVerdict codes n list) (length (tapeOf list)) output e)
+  unfolding writeAnswer writeOutput
+  write-refused = inputs-refused given (writeVerdict n list output) (tapeOf list) output in-turn
 
   module _ (fine : given ≡ Fine) where
     pub write-events : length list / 8 ≤ 4128768
@@ -51,15 +52,13 @@ module _ (n : ℕ) (list output : List ℕ) where
       long = omega (arith, length-tape list)
 
       pub write-short : length output < 512 * blocks → Wrote n list output (Refused refusal.Output) [] output
-      unfolding writeVerdict
-      write-short few =
-          refused (output-refuses (sizeVerdict n) (listVerdict codes n list) _ output fine (omega (arith, long)))
+      unfolding writeAnswer writeOutput
+      write-short = room-refused given (writeVerdict n list output) (tapeOf list) output in-turn fine long
 
       pub write-done : {t : List ℕ} → 512 * blocks ≤ length output
           → t ≡ splice output 0 (join (tabulate (blockFor list) 0 blocks))
           → Wrote n list output Fine (512 * blocks ∷ []) t
-      unfolding writeVerdict writeAnswer writeOutput
+      unfolding writeAnswer writeOutput
       write-done room wrote =
-          let is = all-fine (sizeVerdict n) (listVerdict codes n list) (length (tapeOf list)) output fine
-          (omega (arith, long)) in
-          (rw (is, long), wrote ∙ rw (is, blocks-are list all))
+          output-filled given (writeVerdict n list output) (tapeOf list) output in-turn fine long room
+          (wrote ∙ ap (splice output 0) (blocks-are list all))

@@ -1,27 +1,36 @@
--- Three numbers drawn, and the event that they make in two stores, of which the second is the message.
+-- Three numbers drawn, and the event that they make, with a message or without.
 use native.Mathlib.Omega.{arith}
 use borrow.Author.Needs.{needs}
-use Rattle.load.proofs.Drawn.{process-small, event-drawn}
+use Rattle.load.proofs.Drawn.{process-small, drew-with, drew-without}
 use Rattle.load.proofs.draw_event.Statement.{statement}
 use Rattle.load.proofs.draw_event.Tie as tie
 
-cast-put-four : tie.Need-cast-put-four
-cast-put-four c = record { fits = search (needs, process-small) }
+put-requires : tie.Need-put-requires
+put-requires c κs = search (needs, process-small)
+
+put-requires-2 : tie.Need-put-requires-2
+put-requires-2 c κs = search (needs, process-small)
 
 returns : tie.Need-returns
 returns c =
-    let head = c .before .before .before .before .before .before in
-    let second = head .before .before in
-    let first = second .before in
-    let d = first .before .before in
-    let drew = c .before .before .draw-message .ensures in
-    let drawn =
-    event-drawn (d .args .n) (d .args .seed) (d .args .tape .now) (d .args .at) (omega arith) (first .next .ensures .0)
-    (second .next2 .ensures .0) (head .put-four .ensures) (drew .0) (drew .1) in
-    (drawn .0, drawn .1, drew .2)
+    let test = c .before .before .before .before in
+    let first = test .before .before .before in
+    let a = first .before .before .args in
+    drew-with (a .n) (a .seed) (a .tape .now) (a .at) (first .next .ensures .0)
+    (test .before .before .next2 .ensures .0) (test .before .next3 .ensures) (test .if1 .taken)
+    (c .before .before .put .ensures)
+
+returns-2 : tie.Need-returns-2
+returns-2 c =
+    let test = c .before .before .before .before in
+    let first = test .before .before .before in
+    let a = first .before .before .args in
+    drew-without (a .n) (a .seed) (a .tape .now) (a .at) (first .next .ensures .0)
+    (test .before .before .next2 .ensures .0) (test .before .next3 .ensures) (test .if1 .left)
+    (c .before .before .put2 .ensures)
 
 pub draw-event-spec : {M : Type 1} → statement M
 draw-event-spec =
     tie.close
-    (tie.spec (λ c κs. omega arith) (λ c κs. omega arith) (λ c. omega arith) cast-put-four (λ c. omega arith)
-    (λ c κs. omega arith) (λ c. omega arith) (λ c κs. omega arith) (λ c. omega arith) returns)
+    (tie.spec (λ c κs. omega arith) (λ c κs. omega arith) (λ c κs. omega arith) (λ c. omega arith) (λ c. omega arith)
+    (λ c. omega arith) put-requires (λ c. omega arith) returns put-requires-2 (λ c. omega arith) returns-2)

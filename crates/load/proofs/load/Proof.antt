@@ -22,7 +22,7 @@ returns c =
 blocks-for-requires : tie.Need-blocks-for-requires
 blocks-for-requires c κs =
     let a = c .before .before .before .before .args in
-    load-given (a .n) (a .seed) (a .count) (fine c) .events
+    load-given (a .n) (a .seed) (a .count) (fine c) .count-most
 
 returns-2 : tie.Need-returns-2
 returns-2 c =
@@ -35,7 +35,7 @@ draw-blocks-requires c κs =
     let f = c .before .before .before in
     let a = f .before .before .before .before .args in
     let bounds = load-given (a .n) (a .seed) (a .count) (fine f) in
-    omega (arith, bounds .least, bounds .most, bounds .seeds, bounds .events)
+    omega (arith, bounds .size-least, bounds .size-most, bounds .seed-most, bounds .count-most)
 
 returns-3 : tie.Need-returns-3
 returns-3 c =

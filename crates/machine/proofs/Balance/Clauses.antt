@@ -12,7 +12,8 @@ use Rattle.machine.specs.declared.Process.{Process}
 use Rattle.machine.specs.Ring.{left}
 use Rattle.machine.specs.Fields.{Status, for}
 use Rattle.machine.specs.Image.{State}
-use Rattle.machine.specs.Stages.{within, sending, filled, receiving}
+use Rattle.machine.specs.Lists.{within}
+use Rattle.machine.specs.Stages.{sending, filled, receiving}
 use Rattle.machine.specs.Events.{wanted, processAt}
 use Rattle.machine.specs.Balance.{Totals, inStages, ownMessage}
 use Rattle.machine.proofs.Soundness.Settled.{waitsFor}

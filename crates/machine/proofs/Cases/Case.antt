@@ -7,6 +7,7 @@ use lib.ListN.{replicate}
 use lib.Dec.{eqb}
 use Rattle.machine.specs.Bytes.{bytes}
 use Rattle.machine.specs.Lists.{join}
+use Rattle.machine.specs.Tape.{eventBytes}
 use Rattle.machine.specs.Answers.{Answer}
 
 -- ---- answers, events and images
@@ -21,7 +22,7 @@ refused number place = record { number = number; values = place ∷ [] }
 
 -- an event p.c with message m, as bytes
 abbrev pub event : ℕ → ℕ → ℕ → List ℕ
-event p c m = p ∷ c ∷ 0 ∷ 0 ∷ bytes 4 m
+event p c m = eventBytes record { process = p; code = c; message = m }
 
 -- n copies of an event
 abbrev pub copies : ℕ → List ℕ → List ℕ
