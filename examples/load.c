@@ -43,5 +43,9 @@ int main(void)
                tape[RING_BLOCK_SLOTS + RING_EVENT_PROCESS], tape[RING_BLOCK_SLOTS + RING_EVENT_CODE]);
         run(tape, sizeof tape);
     }
+    if (ring_load(PROCESSES, 1, 0, tape, sizeof tape, result, sizeof result) == RING_DONE) {
+        printf("no events: %" PRIu64 " bytes, ", ring_word(result, RING_WORD_FILLED));
+        run(tape, RING_TAPE_SIZE(0));
+    }
     return 0;
 }

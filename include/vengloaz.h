@@ -32,8 +32,8 @@ uint64_t ring_step(uint8_t *image, size_t image_length, const uint8_t *event, si
                    size_t result_length);
 
 /* Performs every event of a tape on an image, and writes a record for each fill, take, sent and got to the start of the
- * ledger, whose further bytes are kept. Told: RING_WORD_PUTS to RING_WORD_RECORDS. Refusals 3, 4; 6, then block by
- * block 7, 8, 5, 9; 10. */
+ * ledger, whose further bytes are kept. A tape of length 0 has no events: the image is tested, and nothing changes.
+ * Told: RING_WORD_PUTS to RING_WORD_RECORDS. Refusals 3, 4; 6, then block by block 7, 8, 5, 9; 10. */
 uint64_t ring_run(uint8_t *image, size_t image_length, const uint8_t *tape, size_t tape_length, uint8_t *ledger,
                   size_t ledger_length, uint8_t *result, size_t result_length);
 
@@ -72,7 +72,7 @@ enum ring_refusal {
     RING_REFUSED_SHORT = 3,    /* image under 16 bytes, or under 16 + 8n for the n of 2 to 64 in its byte 0 */
     RING_REFUSED_UNSOUND = 4,  /* image not sound, or of 16 bytes or more and its byte 0 not 2 to 64 */
     RING_REFUSED_EVENT = 5,    /* not an event of this ring; place: its number in list or tape, 0 for a single one */
-    RING_REFUSED_LENGTH = 6,   /* tape, list or load of a wrong length: none, not in whole blocks or events, too many */
+    RING_REFUSED_LENGTH = 6,   /* tape or list not in whole blocks or events, or too many; load of too many events */
     RING_REFUSED_CHECK = 7,    /* block check differs; place: the block's position on the tape, as for 8 and 9 */
     RING_REFUSED_BLOCK = 8,    /* block number or count differs */
     RING_REFUSED_UNUSED = 9,   /* unused slot not zero */

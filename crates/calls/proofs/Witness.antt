@@ -1,6 +1,6 @@
--- The demand is not empty: entry 1's events by a run, a step and another run, with refused and stopped calls and an
--- idle step in between, make a list that ends stopped, with a fill, a take, a sent and a got in it; and the same list
--- by the suite's host shows the same to it. The checker computes both.
+-- The demand is not empty: entry 1's events by a run, a step and another run, with refused and stopped calls, an idle
+-- step and a run of no events in between, make a list that ends stopped, with a fill, a take, a sent and a got in it;
+-- and the same list by the suite's host shows the same to it. The checker computes both.
 use Prim.Native.Nat.{ℕ, _≤_, _<_}
 use mathlib.Core.Path.{_≡_, refl}
 use mathlib.Core.Bool.{Bool, true}
@@ -28,7 +28,7 @@ use Rattle.calls.proofs.Demand.{demand-three}
 unfoldable pub offRing : List ℕ
 offRing = tapeOf (event 1 0 7 ++ event 2 0 7)
 
--- an empty event and that tape are refused; where a run's answer has its puts, the tape's refusal has its place, 1
+-- an event of no bytes and that tape are refused; where a run's answer has its puts, the tape's refusal has its place, 1
 pub both-refused : (stepAnswer ring [] ≡ refused 5 0) × (runAnswer ring offRing [] ≡ refused 5 1)
 unfolding rules ring offRing
 both-refused = (refl, refl)
@@ -36,7 +36,7 @@ both-refused = (refl, refl)
 -- the get that the last ten events begin with starts by a step; another at the same process is idle
 unfoldable pub calls : List Call
 calls =
-    Step [] ∷ Run offRing [] ∷ Run (tapeOf firstTen) (replicate 12 255) ∷ Stopped ∷ Step (event 0 1 0)
+    Step [] ∷ Run offRing [] ∷ Run (tapeOf firstTen) (replicate 12 255) ∷ Run [] [] ∷ Stopped ∷ Step (event 0 1 0)
     ∷ Step (event 0 1 0) ∷ Run (tapeOf (drop 8 lastTen)) (replicate 37 255) ∷ Stopped ∷ []
 
 -- a put and a get ended, a message filled and taken, and the ring stopped
@@ -65,7 +65,7 @@ unfoldable pub hostCalls : List HostCall
 hostCalls =
     by result (Step []) ∷ by result (Run offRing [])
     ∷ by short (Run (tapeOf firstTen) (replicate 12 255)) ∷ by result (Run (tapeOf firstTen) (replicate 12 255))
-    ∷ by result Stopped ∷ by short (Step (event 0 1 0)) ∷ by result (Step (event 0 1 0))
+    ∷ by result (Run [] []) ∷ by result Stopped ∷ by short (Step (event 0 1 0)) ∷ by result (Step (event 0 1 0))
     ∷ by result (Step (event 0 1 0)) ∷ by result (Run (tapeOf (drop 8 lastTen)) (replicate 37 255))
     ∷ by result Stopped ∷ []
 

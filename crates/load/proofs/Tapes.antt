@@ -102,7 +102,6 @@ module _ (n seed count : ℕ) (fine : given n seed count ≡ Fine) where
         fine-list codes n list
         record {
           whole = omega (arith, long);
-          some = omega (arith, long, bounds .count-least);
           most = omega (arith, long, bounds .count-most);
           events =
               λ k h.

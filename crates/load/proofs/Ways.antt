@@ -33,7 +33,6 @@ pub record Given (n seed count : ℕ) : Type 0 where
   pub size-most : n ≤ 64
   pub seed-least : 1 ≤ seed
   pub seed-most : seed ≤ 2147483646
-  pub count-least : 1 ≤ count
   pub count-most : count ≤ 4128768
 
 module _ (n seed count : ℕ) where
@@ -57,8 +56,7 @@ module _ (n seed count : ℕ) where
         size-most = leb-true n 64 (and-second (leb 2 n) _ size);
         seed-least = leb-true 1 seed (and-first _ (leb seed 2147483646) from);
         seed-most = leb-true seed 2147483646 (and-second (leb 1 seed) _ from);
-        count-least = leb-true 1 count (and-first _ (leb count 4128768) few);
-        count-most = leb-true count 4128768 (and-second (leb 1 count) _ few);
+        count-most = leb-true count 4128768 few;
       }
 
 module _ (n seed count : ℕ) (output : List ℕ) where

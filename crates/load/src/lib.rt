@@ -14,7 +14,6 @@ ghost use lib.ListN.{length};
 ghost use Rattle.machine.specs.Bytes.{splice};
 ghost use Rattle.machine.specs.Tape.{eventBytes, listBytes, blockFor};
 ghost use Rattle.machine.specs.Lists.{join, tabulate};
-ghost use Rattle.machine.specs.Lists as rules;
 ghost use Rattle.machine.specs.Refusals.{orElse, sizeVerdict, seedVerdict, countVerdict};
 ghost use Rattle.machine.specs.Load.{drawn, loadEvent, loadEvents, loadAnswer, loadOutput};
 ghost use Rattle.machine.specs.Load as rule;
@@ -100,13 +99,6 @@ fn draw_blocks(n: u64, seed: u64, count: usize, blocks: usize, tape: &mut [u8])
     }
 }
 
-// Whether a number lies between these two, or is one of them.
-fn within(number: u64, least: u64, most: u64) -> bool
-    ensures { λ r. ⌜ r ≡ rules.within least most number ⌝ }
-{
-    (least <= number) & (number <= most)
-}
-
 // Internal: the verdict of what the call is given: 1 for n, 11 for the seed, 6 for the count. The output's stands
 // apart.
 pub fn load_verdict(n: u64, seed: u64, count: u64) -> Verdict
@@ -115,10 +107,12 @@ pub fn load_verdict(n: u64, seed: u64, count: u64) -> Verdict
     if !Ring::fits(n) {
         return Verdict::Refused(Refusal::Size);
     }
-    if !within(seed, 1, MOST) {
+    let seeded = (1 <= seed) & (seed <= MOST);
+    if !seeded {
         return Verdict::Refused(Refusal::Seed);
     }
-    if !within(count, 1, MOST_EVENTS) {
+    let few = count <= MOST_EVENTS;
+    if !few {
         return Verdict::Refused(Refusal::Length);
     }
     Verdict::Fine

@@ -15,3 +15,4 @@ pub mod Text
 pub mod Report
 pub mod Tapes
 pub mod Loads
+pub mod NoEvents

@@ -105,10 +105,9 @@ eventVerdict codes n s = unless (eqb (length s) 8 && eventFits codes n s 0) (ref
 
 -- ---- 6: the length of a list or a tape
 
--- whole units, at least `least` and at most `most` of them
-unfoldable pub lengthVerdict : ℕ → ℕ → ℕ → List ℕ → Verdict
-lengthVerdict unit least most s =
-    unless (eqb (length s % unit) 0 && leb least (length s / unit) && leb (length s / unit) most) refusal.Length
+-- whole units, at most `most` of them; none at all will do
+unfoldable pub lengthVerdict : ℕ → ℕ → List ℕ → Verdict
+lengthVerdict unit most s = unless (eqb (length s % unit) 0 && leb (length s / unit) most) refusal.Length
 
 -- a tape has at most so many blocks
 abbrev pub mostBlocks : ℕ
@@ -120,12 +119,12 @@ mostEvents = 63 * 65536
 
 -- the same of a number of events, where none are given
 unfoldable pub countVerdict : ℕ → Verdict
-countVerdict count = unless (within 1 mostEvents count) refusal.Length
+countVerdict count = unless (leb count mostEvents) refusal.Length
 
 -- a list: 6, then its events 5
 unfoldable pub listVerdict : ℕ → ℕ → List ℕ → Verdict
 listVerdict codes n s =
-    orElse (lengthVerdict 8 1 mostEvents s)
+    orElse (lengthVerdict 8 mostEvents s)
     (first (λ k. unless (eventFits codes n s (8 * k)) (refusal.Event k)) 0 (length s / 8))
 
 -- ---- 7, 8, 5, 9: a block of a tape
@@ -162,7 +161,7 @@ blockVerdict codes n s b =
 -- a tape: 6, then its blocks
 unfoldable pub tapeVerdict : ℕ → ℕ → List ℕ → Verdict
 tapeVerdict codes n s =
-    orElse (lengthVerdict 512 1 mostBlocks s) (first (blockVerdict codes n s) 0 (length s / 512))
+    orElse (lengthVerdict 512 mostBlocks s) (first (blockVerdict codes n s) 0 (length s / 512))
 
 -- ---- 10: an output
 

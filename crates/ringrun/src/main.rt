@@ -1,4 +1,4 @@
-// ringrun: a tape run from the fresh ring. It reads N, home and 1 to 64 blocks from standard input, and writes the
+// ringrun: a tape run from the fresh ring. It reads N, home and up to 64 blocks from standard input, and writes the
 // ledger's records as lines, the counts, and whether the ring is stopped; or the refusal. Document 01, "The tape", its
 // last paragraph.
 //

@@ -1,6 +1,6 @@
 -- Each way through the run call is that way through the rule. The answers of lower functions are variables here, each
 -- with the rule's value that it is known to be.
-use Prim.Native.Nat.{ℕ, _-_, _/_, _≤_}
+use Prim.Native.Nat.{ℕ, _/_, _≤_}
 use mathlib.Core.Path.{_≡_, sym, _∙_}
 use mathlib.Core.Bool.{Bool, true, false}
 use mathlib.Core.List.{List, []}
@@ -20,7 +20,7 @@ use Rattle.machine.specs.Answers.{Answer, answer, runRecords, runVerdict, runAn
 use Rattle.machine.proofs.Laws.Refusals.{first-fine, second-fine, inputs-refuse, output-refuses, all-fine}
 use Rattle.tape_test.specs.Accepted.{eventsOn, Accepted}
 use Rattle.tape_test.proofs.Blocks.{tape-fine}
-use Rattle.tape_test.proofs.Lengths.{length-list}
+use Rattle.tape_test.proofs.Lengths.{events-ranged}
 use Rattle.replay.specs.Playable.{Playable, Recorded, firstEvents, firstRecords}
 use Rattle.replay.proofs.First.{all-events, all-records}
 
@@ -53,12 +53,9 @@ module _ (s tape ledger : List ℕ) where
     pub run-accepted : Accepted tape
     run-accepted = record { codes = codes; n = sizeIn s; fine = accepted }
 
-    -- an accepted tape has an event
-    pub some-event : 1 ≤ eventsOn tape
-    some-event =
-        let has = tape-fine codes (sizeIn s) tape accepted in
-        let last = length tape / 512 - 1 in
-        omega (arith, has .some, has .blocks last (omega (arith, has .some)) .least, length-list tape has)
+    -- an accepted tape has an event in each block
+    pub block-events : length tape / 512 ≤ eventsOn tape
+    block-events = omega (arith, events-ranged tape (tape-fine codes (sizeIn s) tape accepted) .least)
 
     pub playable : {events : ℕ} → events ≤ eventsOn tape → Playable s tape events
     playable some =

@@ -43,7 +43,7 @@ tape-refused : (codes n : ℕ) (s t : List ℕ) (b : ℕ) → tapeVerdict codes 
 unfolding tapeVerdict lengthVerdict
 tape-refused codes n s t b fine h long same differ =
     let blocks = length s / 512 in
-    rw (long, first-fine (lengthVerdict 512 1 mostBlocks s) (first (blockVerdict codes n s) 0 blocks) fine)
+    rw (long, first-fine (lengthVerdict 512 mostBlocks s) (first (blockVerdict codes n s) 0 blocks) fine)
     (first-refused (blockVerdict codes n t) 0 blocks b (refusal.Check b)
     (λ c low high.
     block-same t s c (same c high) codes n long

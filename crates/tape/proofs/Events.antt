@@ -1,6 +1,6 @@
 -- The events of an accepted tape, as a run takes them: event k is the one in slot k % 63 of block k / 63, it is at a
 -- process of the ring, and its message has 32 bits.
-use Prim.Native.Nat.{ℕ, _+_, _-_, _*_, _/_, _%_, _^_, _≤_, _<_}
+use Prim.Native.Nat.{ℕ, _+_, _*_, _/_, _%_, _^_, _≤_, _<_}
 use mathlib.Core.Path.{_≡_, ap, _∙_}
 use mathlib.Core.Bool.{true}
 use mathlib.Core.List.{List, [], _∷_, _++_}
@@ -22,7 +22,7 @@ use Rattle.machine.proofs.Laws.Lists.{length-tabulate, getD-tabulate, all-each}
 use Rattle.machine.proofs.Runs.{fitting}
 use Rattle.tape_test.specs.Accepted.{eventsOn}
 use Rattle.tape_test.proofs.Blocks.{TapeFine, tape-fine}
-use Rattle.tape_test.proofs.Lengths.{length-list}
+use Rattle.tape_test.proofs.Lengths.{events-ranged}
 use Rattle.tape.proofs.Slots.{event-placed, event-read}
 
 -- an event past the end
@@ -41,9 +41,7 @@ module _ (codes n : ℕ) (s : List ℕ) (accepted : tapeVerdict codes n s ≡ Fi
 
   -- at most 63 in each block
   pub events-in-blocks : eventsOn s ≤ 63 * (length s / 512)
-  events-in-blocks =
-      let last = length s / 512 - 1 in
-      omega (arith, tape .blocks last (omega (arith, tape .some)) .most, tape .some, length-list s tape)
+  events-in-blocks = events-ranged s tape .most
 
   -- and at most 65,536 blocks
   pub events-few : eventsOn s ≤ 4128768

@@ -21,7 +21,7 @@ use Rattle.machine.proofs.Laws.Filling.{inputs-refused, room-refused, output-fi
 use Rattle.tape_test.specs.Accepted.{eventsOn, Accepted}
 use Rattle.machine.proofs.Laws.Joined.{joined-same}
 use Rattle.tape_test.proofs.Blocks.{TapeFine, tape-fine}
-use Rattle.tape_test.proofs.Lengths.{length-list}
+use Rattle.tape_test.proofs.Lengths.{length-list, events-ranged}
 use Rattle.pack.specs.Pack.{widthIn, takenFrom}
 
 -- its answer and its output are the rule's
@@ -35,11 +35,11 @@ module _ (s : List ℕ) {k n total : ℕ} (fine : TapeFine k n s) (all : total �
   width-used b h = go (lt-or-ge (b + 1) (length s / 512))
     where
       go : (b + 1 < length s / 512) ⊎ (length s / 512 ≤ b + 1) → widthIn total b ≡ 8 * blockCount s b
-      go (inl before) = omega (arith, length-list s fine, fine .blocks b h .full before)
+      go (inl before) = omega (arith, events-ranged s fine .whole, events-ranged s fine .least, fine .blocks b h .full before)
       go (inr last) =
           let here : length s / 512 - 1 ≡ b = omega arith in
           let rest : total ≡ 8 * (63 * b + blockCount s b) =
-          all ∙ length-list s fine ∙ ap (λ (m : ℕ). 8 * (63 * m + blockCount s m)) here in
+          all ∙ length-list s fine (omega arith) ∙ ap (λ (m : ℕ). 8 * (63 * m + blockCount s m)) here in
           omega (arith, fine .blocks b h .most)
 
   taken-are : join (tabulate (takenFrom s total) 0 (length s / 512)) ≡ listOf s
@@ -71,15 +71,14 @@ module _ (n : ℕ) (tape output : List ℕ) where
 
     module _ {events : ℕ} (all : events ≡ eventsOn tape) where
       long : 8 * events ≡ length (listOf tape)
-      long = omega (arith, length-list tape (tape-fine codes n tape accepted))
+      long = omega (arith, events-ranged tape (tape-fine codes n tape accepted) .whole)
 
       -- the events fit their blocks, and a block's worth is never left over
       pub read-blocks : (8 * events < 2 ^ 64) × (504 * (length tape / 512) ≤ 8 * events + 504)
       read-blocks =
           let facts = tape-fine codes n tape accepted in
-          let last = facts .blocks (length tape / 512 - 1) (omega (arith, facts .some)) .most in
-          let total = long ∙ length-list tape facts in
-          (omega (arith, facts .most), omega arith)
+          let range = events-ranged tape facts in
+          (omega (arith, range .most, facts .most), omega (arith, range .least))
 
       pub read-short : length output < 8 * events → Read n tape output (Refused refusal.Output) [] output
       unfolding readAnswer readOutput

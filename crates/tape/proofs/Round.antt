@@ -20,7 +20,7 @@ use Rattle.machine.proofs.Image.Rewrite.{part-add, zero-part, bytes-number}
 use Rattle.machine.proofs.Laws.Joined.{joined-same}
 use Rattle.tape_test.proofs.Blocks.{ListFine, list-fine, fine-list, BlockFine, TapeFine, tape-fine, fine-tape}
 use Rattle.machine.proofs.Tapes.{length-slots, slots-most, length-tape}
-use Rattle.tape_test.proofs.Lengths.{length-used, length-list}
+use Rattle.tape_test.proofs.Lengths.{length-used, events-ranged}
 use Rattle.machine.proofs.Laws.Splices.{part-part}
 use Rattle.tape.proofs.Parts.{joined-parts}
 use Rattle.tape.proofs.Written.{used, number-written, count-written, check-written, slots-written}
@@ -100,7 +100,6 @@ module _ {codes n : ℕ} (list : List ℕ) (fine : ListFine codes n list) where
       let blocks = blocks-written in
       record {
         whole = omega (arith, length-tape list);
-        some = omega arith;
         most = omega arith;
         blocks = λ b h. block-accepted b (omega arith);
       }
@@ -126,15 +125,10 @@ module _ (codes n : ℕ) (list : List ℕ) (fine : listVerdict codes n list ≡ 
 module _ {codes n : ℕ} (s : List ℕ) (fine : TapeFine codes n s) where
   list-accepted : ListFine codes n (listOf s)
   list-accepted =
-      let last = length s / 512 - 1 in
-      let long = length-list s fine in
-      let block = fine .blocks last (omega arith) in
-      let low = block .least in
-      let high = block .most in
+      let range = events-ranged s fine in
       record {
-        whole = omega arith;
-        some = omega arith;
-        most = omega arith;
+        whole = range .whole;
+        most = omega (arith, range .most, fine .most);
         events =
             λ k h.
             let placed = event-placed s fine k h in
@@ -144,9 +138,8 @@ module _ {codes n : ℕ} (s : List ℕ) (fine : TapeFine codes n s) where
   -- the list takes the blocks that the tape has
   blocks-again : blocksFor (length (listOf s) / 8) ≡ length s / 512
   blocks-again =
-      let last = length s / 512 - 1 in
-      let block = fine .blocks last (omega arith) in
-      omega (arith, length-list s fine, block .least, block .most)
+      let range = events-ranged s fine in
+      omega (arith, range .most, range .least)
 
   -- block b is written again
   module _ (small : Bytes s) (b : ℕ) (below : b < length s / 512) where

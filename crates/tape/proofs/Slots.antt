@@ -13,7 +13,7 @@ use Rattle.machine.specs.Tape.{eventIn, blockCount, slotAt, usedSlots, listOf, 
 use Rattle.machine.specs.Refusals.{eventFits}
 use Rattle.tape_test.proofs.Blocks.{TapeFine}
 use Rattle.machine.proofs.Tapes.{length-slots}
-use Rattle.tape_test.proofs.Lengths.{length-used, length-full, length-list}
+use Rattle.tape_test.proofs.Lengths.{length-used, length-full, length-list, events-ranged}
 use Rattle.machine.proofs.Laws.Splices.{part-part, part-front}
 use Rattle.tape.proofs.Parts.{part-joined, same-event, same-fits}
 use Rattle.tape.proofs.Written.{slots-written}
@@ -32,8 +32,12 @@ pub record Placed (s : List ℕ) (k : ℕ) : Type 0 where
 module _ {codes n : ℕ} (s : List ℕ) (fine : TapeFine codes n s) where
   pub event-placed : (k : ℕ) → k < length (listOf s) / 8 → Placed s k
   event-placed k h =
-      go (eqb (k / 63) last) refl (length-list s fine) (fine .blocks last (omega arith) .most)
+      go (eqb (k / 63) last) refl (length-list s fine some) (fine .blocks last (omega (arith, some)) .most)
     where
+      -- event k is on the tape, so a block is
+      some : 0 < length s / 512
+      some = omega (arith, events-ranged s fine .most)
+
       last : ℕ
       last = length s / 512 - 1
 
@@ -42,7 +46,7 @@ module _ {codes n : ℕ} (s : List ℕ) (fine : TapeFine codes n s) where
           → Placed s k
       go true q long few =
           let here : k / 63 ≡ last = eqb-true (k / 63) last q in
-          record { block = omega arith; slot = rw here (omega arith) }
+          record { block = omega (arith, some); slot = rw here (omega arith) }
       go false q long few =
           let ne = eqb-false (k / 63) last q in
           let below : k / 63 + 1 < length s / 512 = omega arith in

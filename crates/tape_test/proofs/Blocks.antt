@@ -23,41 +23,32 @@ use Rattle.machine.proofs.Laws.First.{first-fine-at, first-all-fine}
 
 -- ---- the length
 
--- whole units, at least `least` and at most `most` of them
-pub record LengthFine (unit least most : ℕ) (s : List ℕ) : Type 0 where
+-- whole units, at most `most` of them
+pub record LengthFine (unit most : ℕ) (s : List ℕ) : Type 0 where
   pub whole : length s % unit ≡ 0
-  pub some : least ≤ length s / unit
   pub few : length s / unit ≤ most
 
-module _ (unit least most : ℕ) (s : List ℕ) where
-  pub length-fine : lengthVerdict unit least most s ≡ Fine → LengthFine unit least most s
+module _ (unit most : ℕ) (s : List ℕ) where
+  pub length-fine : lengthVerdict unit most s ≡ Fine → LengthFine unit most s
   unfolding lengthVerdict
   length-fine e =
       let whole = eqb (length s % unit) 0 in
-      let some = leb least (length s / unit) in
       let few = leb (length s / unit) most in
-      let fits = unless-fine (whole && some && few) refusal.Length e in
-      let both = and-first (whole && some) few fits in
+      let fits = unless-fine (whole && few) refusal.Length e in
       record {
-        whole = eqb-true (length s % unit) 0 (and-first whole some both);
-        some = leb-true least (length s / unit) (and-second whole some both);
-        few = leb-true (length s / unit) most (and-second (whole && some) few fits);
+        whole = eqb-true (length s % unit) 0 (and-first whole few fits);
+        few = leb-true (length s / unit) most (and-second whole few fits);
       }
 
-  pub fine-length : LengthFine unit least most s → lengthVerdict unit least most s ≡ Fine
+  pub fine-length : LengthFine unit most s → lengthVerdict unit most s ≡ Fine
   unfolding lengthVerdict
-  fine-length h = rw (
-    eq-eqb (length s % unit) 0 (h .whole),
-    le-leb least (length s / unit) (h .some),
-    le-leb (length s / unit) most (h .few),
-  )
+  fine-length h = rw (eq-eqb (length s % unit) 0 (h .whole), le-leb (length s / unit) most (h .few))
 
 -- ---- a list
 
 -- what an accepted list has
 pub record ListFine (codes n : ℕ) (s : List ℕ) : Type 0 where
   pub whole : length s ≡ 8 * (length s / 8)
-  pub some : 1 ≤ length s / 8
   pub most : length s / 8 ≤ 4128768
   pub events : (k : ℕ) → k < length s / 8 → eventFits codes n s (8 * k) ≡ true
 
@@ -69,13 +60,12 @@ module _ (codes n : ℕ) (s : List ℕ) where
   pub list-fine : listVerdict codes n s ≡ Fine → ListFine codes n s
   unfolding listVerdict
   list-fine e =
-      let long = lengthVerdict 8 1 mostEvents s in
+      let long = lengthVerdict 8 mostEvents s in
       let row = first eventTest 0 (length s / 8) in
-      let size = length-fine 8 1 mostEvents s (first-fine long row e) in
+      let size = length-fine 8 mostEvents s (first-fine long row e) in
       let all = first-fine-at eventTest 0 (length s / 8) (second-fine long row e) in
       record {
         whole = omega arith;
-        some = size .some;
         most = size .few;
         events =
             λ k h. unless-fine (eventFits codes n s (8 * k)) (refusal.Event k) (all k (omega arith) (omega arith));
@@ -84,8 +74,8 @@ module _ (codes n : ℕ) (s : List ℕ) where
   pub fine-list : ListFine codes n s → listVerdict codes n s ≡ Fine
   unfolding listVerdict
   fine-list h =
-      let size : LengthFine 8 1 mostEvents s = record { whole = omega arith; some = h .some; few = h .most } in
-      rw (fine-length 8 1 mostEvents s size)
+      let size : LengthFine 8 mostEvents s = record { whole = omega arith; few = h .most } in
+      rw (fine-length 8 mostEvents s size)
       (first-all-fine eventTest 0 (length s / 8) (λ k low high. rw (h .events k (omega arith))))
 
 -- ---- a block
@@ -177,7 +167,6 @@ module _ (codes n : ℕ) (s : List ℕ) (b : ℕ) where
 -- what an accepted tape has
 pub record TapeFine (codes n : ℕ) (s : List ℕ) : Type 0 where
   pub whole : length s ≡ 512 * (length s / 512)
-  pub some : 1 ≤ length s / 512
   pub most : length s / 512 ≤ 65536
   pub blocks : (b : ℕ) → b < length s / 512 → BlockFine codes n s b
 
@@ -185,13 +174,12 @@ module _ (codes n : ℕ) (s : List ℕ) where
   pub tape-fine : tapeVerdict codes n s ≡ Fine → TapeFine codes n s
   unfolding tapeVerdict
   tape-fine e =
-      let long = lengthVerdict 512 1 mostBlocks s in
+      let long = lengthVerdict 512 mostBlocks s in
       let row = first (blockVerdict codes n s) 0 (length s / 512) in
-      let size = length-fine 512 1 mostBlocks s (first-fine long row e) in
+      let size = length-fine 512 mostBlocks s (first-fine long row e) in
       let all = first-fine-at (blockVerdict codes n s) 0 (length s / 512) (second-fine long row e) in
       record {
         whole = omega arith;
-        some = size .some;
         most = size .few;
         blocks = λ b h. block-fine codes n s b (all b (omega arith) (omega arith));
       }
@@ -199,7 +187,7 @@ module _ (codes n : ℕ) (s : List ℕ) where
   pub fine-tape : TapeFine codes n s → tapeVerdict codes n s ≡ Fine
   unfolding tapeVerdict
   fine-tape h =
-      let size : LengthFine 512 1 mostBlocks s = record { whole = omega arith; some = h .some; few = h .most } in
-      rw (fine-length 512 1 mostBlocks s size)
+      let size : LengthFine 512 mostBlocks s = record { whole = omega arith; few = h .most } in
+      rw (fine-length 512 mostBlocks s size)
       (first-all-fine (blockVerdict codes n s) 0 (length s / 512)
       (λ b low high. fine-block codes n s b (omega arith) (h .blocks b (omega arith))))

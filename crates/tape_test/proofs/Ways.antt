@@ -19,21 +19,21 @@ use Rattle.machine.specs.Refusals.{checkVerdict, numberVerdict, usedVerdict, un
 use Rattle.machine.specs.Refusals.{blockVerdict, tapeVerdict, listVerdict}
 use Rattle.machine.proofs.Laws.Refusals.{unless-fine, second-fine, refused-first, else-else}
 use Rattle.tape_test.specs.Accepted.{headVerdict, eventsOn, Accepted}
-use Rattle.tape_test.proofs.Blocks.{fits-most, eventTest, slotTest, tape-fine}
-use Rattle.tape_test.proofs.Lengths.{length-list}
+use Rattle.tape_test.proofs.Blocks.{fits-most, eventTest, slotTest, TapeFine, tape-fine}
+use Rattle.tape_test.proofs.Lengths.{length-list, events-ranged}
 
 -- ---- the length
 
-module _ (unit least most : ℕ) (s : List ℕ) where
+module _ (unit most : ℕ) (s : List ℕ) where
   -- the test as code makes it
   abbrev lengthFits : Bool
-  lengthFits = eqb (length s % unit) 0 && leb least (length s / unit) && leb (length s / unit) most
+  lengthFits = eqb (length s % unit) 0 && leb (length s / unit) most
 
-  pub length-fits : lengthFits ≡ true → verdict.Fine ≡ lengthVerdict unit least most s
+  pub length-fits : lengthFits ≡ true → verdict.Fine ≡ lengthVerdict unit most s
   unfolding lengthVerdict
   length-fits e = rw e
 
-  pub length-unfit : lengthFits ≡ false → verdict.Refused refusal.Length ≡ lengthVerdict unit least most s
+  pub length-unfit : lengthFits ≡ false → verdict.Refused refusal.Length ≡ lengthVerdict unit most s
   unfolding lengthVerdict
   length-unfit e = rw e
 
@@ -122,7 +122,7 @@ module _ (l : Verdict) (f : ℕ → Verdict) (k : ℕ) {v : Verdict} (is : v ≡
   row-start : v ≡ verdict.Fine → first f 0 (k - 0) ≡ orElse l (first f 0 k)
   row-start e = let all : k - 0 ≡ k = omega arith in rw (all, sym is ∙ e)
 
-module _ (codes n : ℕ) (s : List ℕ) {v : Verdict} (is : v ≡ lengthVerdict 512 1 mostBlocks s) where
+module _ (codes n : ℕ) (s : List ℕ) {v : Verdict} (is : v ≡ lengthVerdict 512 mostBlocks s) where
   pub tape-length-refused : {r : Refusal} → v ≡ verdict.Refused r → v ≡ tapeVerdict codes n s
   unfolding tapeVerdict
   tape-length-refused e = refused-first _ is e
@@ -132,7 +132,7 @@ module _ (codes n : ℕ) (s : List ℕ) {v : Verdict} (is : v ≡ lengthVerdict 
   unfolding tapeVerdict
   blocks-start e = row-start _ (blockVerdict codes n s) (length s / 512) is e
 
-module _ (codes n : ℕ) (s : List ℕ) {v : Verdict} (is : v ≡ lengthVerdict 8 1 mostEvents s) where
+module _ (codes n : ℕ) (s : List ℕ) {v : Verdict} (is : v ≡ lengthVerdict 8 mostEvents s) where
   pub list-length-refused : {r : Refusal} → v ≡ verdict.Refused r → v ≡ listVerdict codes n s
   unfolding listVerdict
   list-length-refused e = refused-first _ is e
@@ -145,9 +145,17 @@ module _ (codes n : ℕ) (s : List ℕ) {v : Verdict} (is : v ≡ lengthVerdict 
 -- ---- how many events a tape has
 
 module _ (s : List ℕ) (a : Accepted s) where
-  pub some-block : 1 ≤ length s / 512
-  some-block = tape-fine (a .codes) (a .n) s (a .fine) .some
+  facts : TapeFine (a .codes) (a .n) s
+  facts = tape-fine (a .codes) (a .n) s (a .fine)
 
-  pub events-counted : {count : ℕ} → count ≡ blockCount s (length s / 512 - 1)
+  -- none on a tape of no bytes
+  pub none-counted : length s ≡ 0 → 0 ≡ eventsOn s
+  none-counted none = omega (arith, events-ranged s facts .most)
+
+  -- else there is a last block
+  pub some-block : (length s ≡ 0 → ⊥) → 1 ≤ length s / 512
+  some-block some = omega (arith, facts .whole)
+
+  pub events-counted : {count : ℕ} → (length s ≡ 0 → ⊥) → count ≡ blockCount s (length s / 512 - 1)
       → 63 * (length s / 512 - 1) + count ≡ eventsOn s
-  events-counted e = omega (arith, length-list s (tape-fine (a .codes) (a .n) s (a .fine)))
+  events-counted some e = omega (arith, length-list s facts (some-block some))

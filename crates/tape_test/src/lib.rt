@@ -13,13 +13,12 @@ ghost use lib.ListN.{length};
 ghost use Rattle.machine.specs.Refusals as rule;
 ghost use Rattle.tape_test.specs.Accepted.{headVerdict, eventsOn, Accepted};
 
-// Internal: the length of a list or a tape: whole units, at least and at most so many; refused with 6.
-pub fn length_verdict(bytes: &[u8], unit: usize, least: usize, most: usize) -> Verdict
+// Internal: the length of a list or a tape: whole units, none or up to so many; refused with 6.
+pub fn length_verdict(bytes: &[u8], unit: usize, most: usize) -> Verdict
     requires { ⌜ 0 < unit ⌝ }
-    ensures { λ r. ⌜ r ≡ rule.lengthVerdict unit least most (now (bytes .entry)) ⌝ }
+    ensures { λ r. ⌜ r ≡ rule.lengthVerdict unit most (now (bytes .entry)) ⌝ }
 {
-    let units = bytes.len() / unit;
-    if (bytes.len() % unit == 0) & (least <= units) & (units <= most) {
+    if (bytes.len() % unit == 0) & (bytes.len() / unit <= most) {
         Verdict::Fine
     } else {
         Verdict::Refused(Refusal::Length)
@@ -54,7 +53,7 @@ fn head_verdict(tape: &[u8], b: usize) -> Verdict
 pub fn tape_verdict(tape: &[u8], n: usize, codes: u8) -> Verdict
     ensures { λ r. ⌜ r ≡ rule.tapeVerdict codes n (now (tape .entry)) ⌝ }
 {
-    let mut verdict = length_verdict(tape, 512, 1, MOST_BLOCKS);
+    let mut verdict = length_verdict(tape, 512, MOST_BLOCKS);
     let Verdict::Fine = verdict else {
         return verdict;
     };
@@ -84,7 +83,7 @@ pub fn tape_verdict(tape: &[u8], n: usize, codes: u8) -> Verdict
 pub fn list_verdict(list: &[u8], n: usize, codes: u8) -> Verdict
     ensures { λ r. ⌜ r ≡ rule.listVerdict codes n (now (list .entry)) ⌝ }
 {
-    let verdict = length_verdict(list, 8, 1, 63 * MOST_BLOCKS);
+    let verdict = length_verdict(list, 8, 63 * MOST_BLOCKS);
     let Verdict::Fine = verdict else {
         return verdict;
     };
@@ -97,11 +96,14 @@ pub fn list_verdict(list: &[u8], n: usize, codes: u8) -> Verdict
     verdict
 }
 
-// Internal: how many events an accepted tape has: 63 a block, but in the last.
+// Internal: how many events an accepted tape has: 63 a block, but in the last; none where there is no block.
 pub fn event_count(tape: &[u8]) -> usize
     requires { ⌜ Accepted (now tape) ⌝ }
     ensures { λ r. ⌜ r ≡ eventsOn (now (tape .entry)) ⌝ }
 {
+    if tape.len() == 0 {
+        return 0;
+    }
     let last = tape.len() / 512 - 1;
     let count = word_at(tape, 512 * last + 2) as usize;
     63 * last + count

@@ -151,8 +151,7 @@ type Length = fn(&mut Random) -> (usize, usize);
 
 /// Refusal 6.
 fn lengths(causes: &mut Vec<TapeCause>) {
-    let lengths: [(&str, Length); 6] = [
-        ("empty", |_| (0, 0)),
+    let lengths: [(&str, Length); 5] = [
         ("1 byte", |_| (0, 1)),
         ("511 bytes", |_| (0, 511)),
         ("a byte too many", |random| (random.within(1, 3), 1)),
@@ -241,6 +240,7 @@ fn counts(causes: &mut Vec<TapeCause>, at: &'static str) {
     for (name, count) in wrong {
         in_block(causes, 8, (name, at), move |_, block| block.set_count(count));
     }
+    in_block(causes, 8, ("count 0, and no events", at), |_, block| *block = Block::new(block.number(), &[]));
     in_block(causes, 8, ("count 256 more", at), |_, block| block.set_count(block.count() + 256));
     if matches!(at, "first" | "middle") {
         for (name, count) in [("count 62", 62), ("count 1", 1)] {

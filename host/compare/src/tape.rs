@@ -174,7 +174,7 @@ impl Tape {
     pub fn is_written(&self) -> bool {
         let blocks = self.blocks.len();
         let each_is = |(place, block): (usize, &Block)| block.is_written(place, place + 1 == blocks);
-        self.tail.is_empty() && (1..=MOST_BLOCKS).contains(&blocks) && self.blocks.iter().enumerate().all(each_is)
+        self.tail.is_empty() && blocks <= MOST_BLOCKS && self.blocks.iter().enumerate().all(each_is)
     }
 
     /// Drops a block, if there is one; those after it keep their numbers or get one less.

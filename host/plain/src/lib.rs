@@ -1,5 +1,5 @@
 //! The ring of processes with one envelope, a second time: plain Rust written from document 01
-//! alone, and the load from document 02.
+//! alone, and the load and the tape of no events from document 02.
 //!
 //! It is the other side of the differential tests, the baseline of the benchmark, and says what
 //! ringrun must print for its samples. It shares nothing with the proved library, has no `unsafe`, and
@@ -34,7 +34,7 @@ use answer::{answer, Refusal, LEAST_RESULT, OUTPUT_TOO_SHORT};
 use image::Ring;
 
 /// The planted faults, from 1 on, in their order.
-pub const FAULTS: [&str; 17] = [
+pub const FAULTS: [&str; 20] = [
     "the right of the last of 37 processes is process 1",
     "an absorbed request does not set 'asked itself'",
     "put clears after it has forwarded",
@@ -52,6 +52,9 @@ pub const FAULTS: [&str; 17] = [
     "the third number of a load's event is drawn only where the code is 0",
     "a load whose seed is 2,147,483,646 is refused",
     "a load's count is tested before its seed",
+    "a tape or list of no bytes is refused",
+    "the last block may have count 0",
+    "a run of no events clears the ledger's first byte",
 ];
 
 /// No fault, but another way to count the marks: in two sets, as document 01 names the form. The benchmark has it as a
@@ -128,7 +131,7 @@ pub fn ring_write<const FAULT: u8>(n: u64, list: &[u8], output: &mut [u8], resul
 }
 
 fn write<const FAULT: u8>(n: u64, list: &[u8], output: &mut [u8], result: usize) -> Result<[u64; 8], Refusal> {
-    let list = tape::tested_list(size_argument(n)?, list)?;
+    let list = tape::tested_list::<FAULT>(size_argument(n)?, list)?;
     let output = tape::output_for_tape(list.len(), output)?;
     room_for_result(result)?;
     tape::write::<FAULT>(list, output);

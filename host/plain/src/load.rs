@@ -19,9 +19,9 @@ pub fn tested_seed<const FAULT: u8>(seed: u64) -> Result<Generator, Refusal> {
     Ok(Generator { last: seed })
 }
 
-/// Refusal 6 for a count of no events, or of more than a tape has.
+/// Refusal 6 for a count of more events than a tape has.
 pub fn tested_count(count: u64) -> Result<usize, Refusal> {
-    if count == 0 || count > MOST_EVENTS as u64 {
+    if count > MOST_EVENTS as u64 {
         return Err(Refusal { number: 6, place: 0 });
     }
     Ok(count as usize)

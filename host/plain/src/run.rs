@@ -11,6 +11,9 @@ const RECORD: usize = 12;
 /// could be too short is measured first, on a copy of the image.
 pub fn run<const FAULT: u8>(ring: Ring, tape: &[Block], ledger: &mut [u8]) -> Result<[u64; 8], Refusal> {
     let events = events_of(tape);
+    if FAULT == 20 && events == 0 {
+        ledger.iter_mut().take(1).for_each(|byte| *byte = 0);
+    }
     if ledger.len() / RECORD < events {
         let spare = usize::from(FAULT == 11);
         if ledger.len() < RECORD * (measured::<FAULT>(&ring, tape) + spare) {

@@ -68,12 +68,11 @@ pub fn check(block: &Block) -> u32 {
 /// The blocks of a tape, or its refusal: 6, then block by block 7, 8, its events 5, 9.
 pub fn tested<const FAULT: u8>(size: usize, tape: &[u8]) -> Result<&[Block], Refusal> {
     let (blocks, ragged) = tape.as_chunks::<512>();
-    if blocks.is_empty() || !ragged.is_empty() || blocks.len() > MOST_BLOCKS {
+    if !ragged.is_empty() || blocks.len() > MOST_BLOCKS || FAULT == 18 && blocks.is_empty() {
         return Err(Refusal { number: 6, place: 0 });
     }
-    let last = blocks.len() - 1;
     for (position, block) in blocks.iter().enumerate() {
-        test_block::<FAULT>(size, block, position, position == last)?;
+        test_block::<FAULT>(size, block, position, position + 1 == blocks.len())?;
     }
     Ok(blocks)
 }
@@ -81,13 +80,13 @@ pub fn tested<const FAULT: u8>(size: usize, tape: &[u8]) -> Result<&[Block], Ref
 #[inline(always)]
 fn test_block<const FAULT: u8>(size: usize, block: &Block, position: usize, last: bool) -> Result<(), Refusal> {
     let refusal = |number| Err(Refusal { number, place: position as u64 });
-    if FAULT == 6 && !header_right(block, position, last) {
+    if FAULT == 6 && !header_right::<FAULT>(block, position, last) {
         return refusal(8);
     }
     if !check_right::<FAULT>(block) {
         return refusal(7);
     }
-    if !header_right(block, position, last) {
+    if !header_right::<FAULT>(block, position, last) {
         return refusal(8);
     }
     let (slots, _) = block[8..].as_chunks::<8>();
@@ -109,10 +108,11 @@ fn check_right<const FAULT: u8>(block: &Block) -> bool {
 }
 
 #[inline]
-fn header_right(block: &Block, position: usize, last: bool) -> bool {
+fn header_right<const FAULT: u8>(block: &Block, position: usize, last: bool) -> bool {
     let number = usize::from(u16::from_le_bytes([block[0], block[1]]));
     let count = count_of(block);
-    number == position && (count == SLOTS || last && (1..SLOTS).contains(&count))
+    let least = if FAULT == 19 { 0 } else { 1 };
+    number == position && (count == SLOTS || last && (least..SLOTS).contains(&count))
 }
 
 /// The first of some events that refusal 5 is due to.
@@ -124,9 +124,9 @@ fn first_wrong(size: usize, events: &[[u8; 8]]) -> Option<usize> {
 }
 
 /// The events of a list, or its refusal: 6, then its events 5.
-pub fn tested_list(size: usize, list: &[u8]) -> Result<&[[u8; 8]], Refusal> {
+pub fn tested_list<const FAULT: u8>(size: usize, list: &[u8]) -> Result<&[[u8; 8]], Refusal> {
     let (events, ragged) = list.as_chunks::<8>();
-    if events.is_empty() || !ragged.is_empty() || events.len() > MOST_EVENTS {
+    if !ragged.is_empty() || events.len() > MOST_EVENTS || FAULT == 18 && events.is_empty() {
         return Err(Refusal { number: 6, place: 0 });
     }
     match first_wrong(size, events) {

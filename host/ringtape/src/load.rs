@@ -29,8 +29,8 @@ pub fn load(words: &[&str]) -> Result<Vec<u8>, Fault> {
         let what = match refusal {
             1 => format!("N is not 2 to 64: {n}"),
             2 => format!("HOME is not below N = {n}: {home}"),
-            6 if bare => format!("COUNT is not 1 to {MOST_EVENTS}: {count}"),
-            6 => format!("COUNT is not 1 to {MOST_OF_RINGRUN}, or with --tape to {MOST_EVENTS}: {count}"),
+            6 if bare => format!("COUNT is not 0 to {MOST_EVENTS}: {count}"),
+            6 => format!("COUNT is not 0 to {MOST_OF_RINGRUN}, or with --tape to {MOST_EVENTS}: {count}"),
             11 => format!("SEED is not 1 to {MOST_SEED}: {seed}"),
             _ => format!("{n} {home} {seed} {count}"),
         };

@@ -11,8 +11,8 @@
 //! ```
 //!
 //! A text has a first line `N HOME`, then events parted by blanks or line feeds: `process.code`, and
-//! `process.0(message)`. From a `#` to the line's end is a comment. Whatever `show` writes of an input
-//! that ringrun accepts, `make` turns into the same bytes.
+//! `process.0(message)`; there may be none. From a `#` to the line's end is a comment. Whatever `show` writes of
+//! an input that ringrun accepts, `make` turns into the same bytes, with a 0 for the home where that was missing.
 //!
 //! A text that isn't understood gets one line on standard error, with its line number, and exit
 //! status 1; so does a load that is refused, with its number, and a failed read or write. A load of too
@@ -31,7 +31,7 @@ usage: ringtape make   < TEXT > INPUT    the bytes of a readable text
        ringtape show   < INPUT > TEXT    the reverse; an input that ringrun refuses comes as comments
        ringtape expect < INPUT           what ringrun must print, by plain Rust
        ringtape load N HOME SEED COUNT > INPUT
-                                         a load: COUNT events, 1 to 4032, drawn from SEED, 1 to 2147483646
+                                         a load: COUNT events, 0 to 4032, drawn from SEED, 1 to 2147483646
        ringtape load --tape N HOME SEED COUNT > TAPE
                                          its tape alone, without N and HOME; COUNT may be up to 4128768
 ";

@@ -9,9 +9,8 @@ const MOST_EVENTS: usize = 64 * 63;
 pub fn make(text: &[u8]) -> Result<Vec<u8>, String> {
     let text = readable(text)?;
     let mut lines = lines(text);
-    let last = text.lines().count().max(1);
     let Some((first, words)) = lines.next() else {
-        return Err(at(last, "there is no line `N HOME`"));
+        return Err(at(text.lines().count().max(1), "there is no line `N HOME`"));
     };
     let [n, home] = sizes(&words).map_err(|what| at(first, what))?;
     let mut list = Vec::new();
@@ -22,9 +21,6 @@ pub fn make(text: &[u8]) -> Result<Vec<u8>, String> {
             }
             list.extend(event(word, n).map_err(|what| at(line, what))?.to_bytes());
         }
-    }
-    if list.is_empty() {
-        return Err(at(last, "there is no event"));
     }
     Ok([&[n, home], &guide::tape(n.into(), &list)[..]].concat())
 }

@@ -17,11 +17,13 @@ pub fn show(input: &[u8]) -> String {
     }
 }
 
-/// N and home, then the events of all blocks.
+/// N and home, then the events of all blocks. N is there, or the input would be refused; the home may not be.
 fn accepted(input: &[u8]) -> String {
-    let (sizes, tape) = input.split_at(2);
-    let words: Vec<String> = tape.chunks(512).flat_map(|block| used(block).map(word)).collect();
-    let mut text = format!("{} {}\n", sizes[0], sizes[1]);
+    let words: Vec<String> = tape(input).chunks(512).flat_map(|block| used(block).map(word)).collect();
+    let mut text = match input.get(1) {
+        Some(home) => format!("{} {home}\n", input[0]),
+        None => format!("{} 0 # {}\n", input[0], missing("home")),
+    };
     for line in words.chunks(A_LINE) {
         text += &line.join(" ");
         text += "\n";
@@ -41,15 +43,24 @@ fn refusal(input: &[u8]) -> Option<String> {
 fn sizes(input: &[u8]) -> Vec<String> {
     let said = |name: &str, byte: Option<&u8>| match byte {
         Some(byte) => format!("{name} {byte}"),
-        None => format!("no {name}: it reads as 0"),
+        None => missing(name),
     };
     vec![said("N", input.first()), said("home", input.get(1))]
 }
 
+/// What is said of N or home where it is missing.
+fn missing(name: &str) -> String {
+    format!("no {name}: it reads as 0")
+}
+
+/// The bytes behind N and home.
+fn tape(input: &[u8]) -> &[u8] {
+    input.get(2..).unwrap_or_default()
+}
+
 /// Every block, whole or not: its header, then the slots that are used or not zero.
 fn blocks(input: &[u8]) -> Vec<String> {
-    let tape = input.get(2..).unwrap_or_default();
-    tape.chunks(512).enumerate().flat_map(|(at, block)| [vec![header(at, block)], slots(block)].concat()).collect()
+    tape(input).chunks(512).enumerate().flat_map(|(at, block)| [vec![header(at, block)], slots(block)].concat()).collect()
 }
 
 fn header(at: usize, block: &[u8]) -> String {

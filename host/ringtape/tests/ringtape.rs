@@ -84,6 +84,21 @@ fn the_greatest_of_all_are_made() {
     assert_eq!(shown(&input), text);
 }
 
+/// N and home alone: no events, whether of a text, of a load or of an input that lacks its home too.
+#[test]
+fn no_events_are_made_and_shown() {
+    for text in ["2 1", "2 1\n", "\n2 1 # 1.3\n# 0.7\n\n"] {
+        assert_eq!(made(text), [2, 1]);
+    }
+    assert_eq!(shown(&[2, 1]), "2 1\n");
+    assert_eq!(shown(&[64]), "64 0 # no home: it reads as 0\n");
+    assert_eq!(made(&shown(&[64])), [64, 0]);
+    assert_eq!(loaded("4 3 1 0"), [4, 3]);
+    assert_eq!(loaded("4 3 1 0 --tape"), []);
+    let nothing = "puts 0 gets 0 fills 0 takes 0 sent 0 got 0 idle 0\nstopped\n";
+    assert_eq!(done("expect", &made("64 63")), nothing.as_bytes());
+}
+
 #[test]
 fn as_many_events_as_ringrun_takes_and_no_more() {
     let events = |count: usize| format!("2 0\n{}", "1.7\n".repeat(count));
@@ -100,11 +115,9 @@ fn what_is_not_understood_is_named_with_its_line() {
     {
         assert_eq!(complaint(format!("2 0\n1.3\n0.7 {word} 0.7").as_bytes()), not(word));
     }
-    let wrong: [(&[u8], &str); 22] = [
+    let wrong: [(&[u8], &str); 20] = [
         (b"", "line 1: there is no line `N HOME`"),
         (b"# 2 0\n\n", "line 2: there is no line `N HOME`"),
-        (b"2 0", "line 1: there is no event"),
-        (b"2 0\n# 1.3\n", "line 2: there is no event"),
         (b"2\n0\n1.3", "line 1: the first line is `N HOME`, two numbers: 2"),
         (b"\n2 0 1.3", "line 2: the first line is `N HOME`, two numbers: 2 0 1.3"),
         (b"two 0\n1.3", "line 1: N is not a number: two"),
@@ -187,12 +200,12 @@ fn a_load_is_refused_with_its_number() {
         ("1 0 1 63", "1 at 0: N is not 2 to 64: 1"),
         ("65 0 1 63", "1 at 0: N is not 2 to 64: 65"),
         ("258 0 1 63", "1 at 0: N is not 2 to 64: 258"),
-        ("4294967300 9 0 0", "1 at 0: N is not 2 to 64: 4294967300"),
+        ("4294967300 9 0 4128769", "1 at 0: N is not 2 to 64: 4294967300"),
         ("4 4 1 63", "2 at 0: HOME is not below N = 4: 4"),
         ("4 256 1 63", "2 at 0: HOME is not below N = 4: 256"),
-        ("4 4294967296 0 0", "2 at 0: HOME is not below N = 4: 4294967296"),
+        ("4 4294967296 0 4128769", "2 at 0: HOME is not below N = 4: 4294967296"),
         ("4 0 0 63", "11 at 0: SEED is not 1 to 2147483646: 0"),
-        ("4 0 2147483647 0", "11 at 0: SEED is not 1 to 2147483646: 2147483647"),
+        ("4 0 2147483647 4128769", "11 at 0: SEED is not 1 to 2147483646: 2147483647"),
         ("4 0 4294967297 18446744073709551615", "11 at 0: SEED is not 1 to 2147483646: 4294967297"),
         ("4 0 0 4033", "11 at 0: SEED is not 1 to 2147483646: 0"),
     ];
@@ -203,18 +216,18 @@ fn a_load_is_refused_with_its_number() {
     }
 }
 
-/// No events, or too many: for ringrun from 4,033 on, and for a tape from 4,128,769.
+/// Too many: for ringrun from 4,033 on, and for a tape from 4,128,769.
 #[test]
-fn a_load_of_no_or_too_many_events_is_refused() {
+fn a_load_of_too_many_events_is_refused() {
     assert_eq!(loaded("4 0 1 4032").len(), 2 + 64 * 512);
-    for count in ["0", "4033", "4128768", "4128769", "4294967297", "18446744073709551615"] {
+    for count in ["4033", "4128768", "4128769", "4294967297", "18446744073709551615"] {
         let line = one_line(ringtape(&["load", "4", "0", "1", count], b""), 1);
-        assert_eq!(line, format!("refused 6 at 0: COUNT is not 1 to 4032, or with --tape to 4128768: {count}"));
+        assert_eq!(line, format!("refused 6 at 0: COUNT is not 0 to 4032, or with --tape to 4128768: {count}"));
     }
     assert_eq!(loaded("4 0 1 4033 --tape").len(), 65 * 512);
-    for count in ["0", "4128769", "4294967297", "18446744073709551615"] {
+    for count in ["4128769", "4294967297", "18446744073709551615"] {
         let line = one_line(ringtape(&["load", "--tape", "4", "0", "1", count], b""), 1);
-        assert_eq!(line, format!("refused 6 at 0: COUNT is not 1 to 4128768: {count}"));
+        assert_eq!(line, format!("refused 6 at 0: COUNT is not 0 to 4128768: {count}"));
     }
 }
 
@@ -249,7 +262,8 @@ fn samples_are_shown_and_made_again() {
             assert!(text.lines().all(|line| line.starts_with("# ")), "{name}: {text}");
             assert!(complaint(text.as_bytes()).ends_with("there is no line `N HOME`"), "{name}");
         } else {
-            assert_eq!(made(&text), input, "{name}");
+            // N alone comes back with its home
+            assert_eq!(made(&text), if input.len() == 1 { vec![input[0], 0] } else { input }, "{name}");
             assert!(text.lines().skip(1).all(|line| line.split(' ').count() <= 10), "{name}");
         }
     }
@@ -270,8 +284,8 @@ fn a_refused_input_is_shown_as_far_as_it_can_be_read() {
     assert_eq!(shown(&input), damaged);
     guide::seal(&mut input[2..]);
     input.extend([1, 0, 63, 0, 1, 2, 3]);
-    let ragged = "# refused 6 at 0: the length is wrong: a tape has 1 to 65536 whole blocks of 512 bytes, \
-                  a list or load 1 to 4128768 events, and ringrun takes up to 64 blocks\n# N 3\n# home 2\n\
+    let ragged = "# refused 6 at 0: the length is wrong: a tape has up to 65536 blocks of 512 bytes, a list up to \
+                  4128768 events of 8 bytes, all whole, and ringrun takes up to 64 blocks\n# N 3\n# home 2\n\
                   # block 0: number 0, count 3, check right\n\
                   # 1.0(7) [02 03 05 00 00 00 00 00] 0.1(9)\n\
                   # unused slot 62: 00 00 00 00 00 00 00 ff\n\

@@ -1,5 +1,5 @@
 //! Each refusal that ringrun can give, by each of its causes, at the start of a tape and further on.
-//! Empty and overlong inputs, which are refused too, are among the sizes.
+//! Overlong inputs, which are refused too, are among the sizes, and so is no input at all.
 
 use crate::damage::{greatest_ring, one_event, three_blocks, Damage};
 use crate::Sample;
@@ -74,7 +74,8 @@ fn headers() -> Vec<(String, Damage)> {
         counts.map(|(block, count)| (format!("8-count-{count}-block-{block}"), three_blocks().sealed(block, 2, count)));
     let alone = [0, 64].map(|count| (format!("8-count-{count}-alone"), one_event().sealed(0, 2, count)));
     let upper = ("8-count-257-block-2".into(), three_blocks().sealed(2, 3, 1));
-    numbers.into_iter().chain(counts).chain(alone).chain([upper]).collect()
+    let zeros = ("8-count-0-of-zeros".into(), one_event().length(0).length(512));
+    numbers.into_iter().chain(counts).chain(alone).chain([upper, zeros]).collect()
 }
 
 /// 5: each wrong event in block 0 and in block 1, one in the greatest ring, and one at the ends of the

@@ -65,7 +65,8 @@ pub fn step(image: &mut [u8], event: Event) -> Result<Outcome, Refusal> {
 /// The ledger needs 12 bytes for each record of this run and no more; its further bytes keep their
 /// values, and [`records`](crate::records) reads it. With room for a record an event, 12 bytes each, the
 /// run is quicker, since it needn't count its records first. A block has up to 63 events, so
-/// `tape.len() / 512 * 756` bytes always do.
+/// `tape.len() / 512 * 756` bytes always do. A tape of no bytes has no events: all counts are 0, image and ledger stay
+/// as they are, and the image has been tested.
 ///
 /// # Errors
 ///
@@ -129,12 +130,13 @@ pub fn stopped(image: &[u8]) -> Result<bool, Refusal> {
     Ok(ResultSlice::of(|result| raw::ring_stopped(image, result))?.word(0) != 0)
 }
 
-/// The tape of a list of events for a ring of `n` processes: 512 bytes for each 63 events or part of them.
+/// The tape of a list of events for a ring of `n` processes: 512 bytes for each 63 events or part of them, and no bytes
+/// for no events.
 ///
 /// # Errors
 ///
-/// [`Refusal::RingSize`] unless n is 2 to 64; [`Refusal::Length`] for an empty list, or one of more than 4,128,768
-/// events; [`Refusal::Event`] with the number of the first event that no ring of n has.
+/// [`Refusal::RingSize`] unless n is 2 to 64; [`Refusal::Length`] for a list of more than 4,128,768 events;
+/// [`Refusal::Event`] with the number of the first event that no ring of n has.
 ///
 /// # Examples
 ///
@@ -144,7 +146,7 @@ pub fn stopped(image: &[u8]) -> Result<bool, Refusal> {
 /// let events = [Event::put(1, 7), Event::new(1, 3), Event::new(1, 7)];
 /// assert_eq!(write(2, &events)?.len(), 512);
 /// assert_eq!(write(65, &events), Err(Refusal::RingSize));
-/// assert_eq!(write(2, &[]), Err(Refusal::Length));
+/// assert_eq!(write(2, &[])?, []); // a tape too
 /// assert_eq!(write(2, &[Event::get(1), Event::get(2)]), Err(Refusal::Event { place: 1 }));
 /// # Ok::<(), Refusal>(())
 /// ```
@@ -155,7 +157,7 @@ pub fn write(n: u64, events: &[Event]) -> Result<Vec<u8>, Refusal> {
     Ok(tape)
 }
 
-/// The list of events of a tape for a ring of `n` processes.
+/// The list of events of a tape for a ring of `n` processes; of no bytes, none.
 ///
 /// # Errors
 ///
@@ -192,7 +194,7 @@ pub fn read(n: u64, tape: &[u8]) -> Result<Vec<Event>, Refusal> {
 /// # Errors
 ///
 /// [`Refusal::RingSize`] unless n is 2 to 64; [`Refusal::Seed`] unless the seed is 1 to 2,147,483,646;
-/// [`Refusal::Length`] unless the count is 1 to 4,128,768.
+/// [`Refusal::Length`] for a count of more than 4,128,768.
 ///
 /// # Examples
 ///
@@ -204,7 +206,7 @@ pub fn read(n: u64, tape: &[u8]) -> Result<Vec<Event>, Refusal> {
 /// assert_eq!(events[0], Event::get(3)); // process 3, code 1
 /// assert_eq!(events[3], Event::put(1, 1_115_438_165));
 /// assert_eq!(load(4, 0, 63), Err(Refusal::Seed));
-/// assert_eq!(load(4, 1, 0), Err(Refusal::Length));
+/// assert_eq!(load(4, 1, 0)?, []);
 /// assert_eq!(load(4, 1, u64::MAX), Err(Refusal::Length));
 /// # Ok::<(), Refusal>(())
 /// ```

@@ -37,7 +37,7 @@ pub enum Refusal {
         /// The event's number in its list or on its tape; 0 for a single event.
         place: u64,
     },
-    /// 6: the tape or list is empty, ragged, or too long; or a load is to have no events, or more than a tape has.
+    /// 6: the tape or list is ragged or too long; or a load is to have more events than a tape has.
     Length,
     /// 7: a block's check differs.
     BlockCheck {
@@ -124,8 +124,8 @@ impl fmt::Display for Refusal {
             ),
             Refusal::Length => write!(
                 out,
-                "the length is wrong: a tape has 1 to 65536 whole blocks of 512 bytes, a list or load 1 to 4128768 \
-                 events, and ringrun takes up to 64 blocks"
+                "the length is wrong: a tape has up to 65536 blocks of 512 bytes, a list up to 4128768 events of 8 \
+                 bytes, all whole, and ringrun takes up to 64 blocks"
             ),
             Refusal::BlockCheck { block } => {
                 write!(out, "block {block} came damaged: its check isn't that of its bytes")

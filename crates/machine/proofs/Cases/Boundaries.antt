@@ -95,12 +95,18 @@ damaged k v s = set s k v
 abbrev puts : ℕ → List ℕ
 puts n = copies n (event 1 7 0)
 
+-- a byte alone is no tape and no list: it is 6, where nothing comes before
+abbrev ragged : List ℕ
+ragged = 0 ∷ []
+
 abbrev reading : List ℕ → Answer
 reading tape = readAnswer 2 tape (replicate 1008 0)
 
 abbrev tapeCases : List Case
 tapeCases =
-    case (reading []) (refused 6 0)
+    -- no bytes are a tape of no events, which takes no room
+    case (reading []) (done (0 ∷ []))
+    ∷ case (readAnswer 2 [] []) (done (0 ∷ []))
     ∷ case (reading (take 511 (block 0 1 (event 1 0 7)))) (refused 6 0)
     ∷ case (reading (block 0 1 (event 1 0 7) ++ (0 ∷ []))) (refused 6 0)
     ∷ case (reading (block 0 1 (event 1 0 7))) (done (8 ∷ []))
@@ -112,6 +118,7 @@ tapeCases =
     ∷ case (reading (damaged 4 255 (damaged 5 255 (block 0 1 (event 1 0 65533))))) (refused 7 0)
     ∷ case (reading (block 1 1 (event 1 0 7))) (refused 8 0)
     ∷ case (reading (block 0 0 (event 1 0 7))) (refused 8 0)
+    ∷ case (reading (block 0 0 [])) (refused 8 0)
     ∷ case (reading (block 0 64 (puts 63))) (refused 8 0)
     ∷ case (reading (block 0 63 (puts 63))) (done (504 ∷ []))
     ∷ case (reading (block 0 1 (event 2 0 7))) (refused 5 0)
@@ -123,6 +130,7 @@ tapeCases =
     ∷ case (reading (block 0 62 (puts 62) ++ block 1 1 (event 1 0 7))) (refused 8 0)
     ∷ case (reading (block 0 63 (puts 63) ++ damaged 8 0 (block 1 1 (event 1 0 7)))) (refused 7 1)
     ∷ case (reading (block 0 63 (puts 63) ++ block 0 1 (event 1 0 7))) (refused 8 1)
+    ∷ case (reading (block 0 63 (puts 63) ++ block 1 0 [])) (refused 8 1)
     ∷ case (reading (block 0 63 (puts 63) ++ block 1 2 (event 1 0 7 ++ event 1 1 7))) (refused 5 64)
     ∷ case (reading (block 0 63 (puts 63) ++ block 1 1 (event 1 0 7 ++ event 1 0 7))) (refused 9 1)
     -- 6 before 7, 7 before 8, 8 before 5, 5 before 9, a block before the next, the tape before the output
@@ -135,7 +143,7 @@ tapeCases =
     ∷ case (readAnswer 2 (block 0 1 (event 2 0 7)) []) (refused 5 0)
     ∷ case (readAnswer 2 (block 0 1 (event 1 0 7 ++ event 1 0 7)) []) (refused 9 0)
     -- the argument before the tape
-    ∷ case (readAnswer 1 [] []) (refused 1 0)
+    ∷ case (readAnswer 1 ragged []) (refused 1 0)
     ∷ []
 
 -- the tape of the one event that fills the envelope of mayFill
@@ -148,10 +156,11 @@ runCases =
     ∷ case (runAnswer mayFill fills (replicate 11 0)) (refused 10 0)
     -- a run without records takes no bytes
     ∷ case (runAnswer ring (block 0 1 (event 1 7 0)) []) (done (0 ∷ 0 ∷ 0 ∷ 0 ∷ 0 ∷ 0 ∷ 1 ∷ 0 ∷ []))
-    ∷ case (runAnswer mayFill [] (replicate 12 0)) (refused 6 0)
+    ∷ case (runAnswer mayFill [] []) (done (0 ∷ 0 ∷ 0 ∷ 0 ∷ 0 ∷ 0 ∷ 0 ∷ 0 ∷ []))
+    ∷ case (runAnswer mayFill (block 0 0 []) (replicate 12 0)) (refused 8 0)
     -- the image before the tape
-    ∷ case (runAnswer (take 31 ring) [] []) (refused 3 0)
-    ∷ case (runAnswer unsound [] []) (refused 4 0)
+    ∷ case (runAnswer (take 31 ring) ragged []) (refused 3 0)
+    ∷ case (runAnswer unsound ragged []) (refused 4 0)
     -- each fault of the tape before the ledger, which has no room for the fill's record
     ∷ case (runAnswer mayFill (fills ++ (0 ∷ [])) []) (refused 6 0)
     ∷ case (runAnswer mayFill (damaged 511 1 fills) []) (refused 7 0)
@@ -165,14 +174,15 @@ writing list = writeAnswer 2 list (replicate 512 0)
 
 abbrev writeCases : List Case
 writeCases =
-    case (writing []) (refused 6 0)
+    case (writing []) (done (0 ∷ []))
+    ∷ case (writeAnswer 2 [] []) (done (0 ∷ []))
     ∷ case (writing (take 7 (event 1 0 7))) (refused 6 0)
     ∷ case (writing (event 1 0 7 ++ (0 ∷ []))) (refused 6 0)
     ∷ case (writing (event 1 0 7)) (done (512 ∷ []))
     ∷ case (writing (event 1 0 7 ++ event 1 8 0)) (refused 5 1)
     ∷ case (writeAnswer 2 (event 1 0 7) (replicate 511 0)) (refused 10 0)
     -- 1 before 6, 6 before 5, 5 before 10
-    ∷ case (writeAnswer 65 [] []) (refused 1 0)
+    ∷ case (writeAnswer 65 ragged []) (refused 1 0)
     ∷ case (writing (event 2 0 7 ++ (0 ∷ []))) (refused 6 0)
     ∷ case (writeAnswer 2 (event 2 0 7) []) (refused 5 0)
     ∷ []
@@ -204,9 +214,10 @@ reportCases =
     ∷ says (64 ∷ 63 ∷ fills) "puts 0 gets 0 fills 0 takes 0 sent 0 got 0 idle 1\nstopped\n"
     ∷ says (two (block 0 2 (event 1 0 7 ++ event 1 3 0)))
     "puts 1 gets 0 fills 0 takes 0 sent 0 got 0 idle 0\nmoving\n"
-    -- a missing home is 0; no block is 6
-    ∷ says (2 ∷ []) "refused 6 at 0\n"
-    ∷ says (two []) "refused 6 at 0\n"
+    -- a missing home is 0; no block is no event
+    ∷ says (2 ∷ []) "puts 0 gets 0 fills 0 takes 0 sent 0 got 0 idle 0\nstopped\n"
+    ∷ says (two []) "puts 0 gets 0 fills 0 takes 0 sent 0 got 0 idle 0\nstopped\n"
+    ∷ says (64 ∷ 63 ∷ []) "puts 0 gets 0 fills 0 takes 0 sent 0 got 0 idle 0\nstopped\n"
     ∷ says (two (fills ++ (0 ∷ []))) "refused 6 at 0\n"
     ∷ says (two (take 511 fills)) "refused 6 at 0\n"
     ∷ says (two (block 0 63 (puts 63) ++ damaged 8 0 (block 1 1 (event 1 0 7)))) "refused 7 at 1\n"
@@ -220,8 +231,8 @@ reportCases =
     ∷ says (1 ∷ 0 ∷ tooMany) "refused 1 at 0\n"
     ∷ says (2 ∷ 2 ∷ tooMany) "refused 2 at 0\n"
     -- 1 before 2 and 6, 2 before 6
-    ∷ says (1 ∷ 1 ∷ []) "refused 1 at 0\n"
-    ∷ says (2 ∷ 2 ∷ []) "refused 2 at 0\n"
+    ∷ says (1 ∷ 1 ∷ ragged) "refused 1 at 0\n"
+    ∷ says (2 ∷ 2 ∷ ragged) "refused 2 at 0\n"
     -- the output: the text of no input has 15 bytes
     ∷ case (reportAnswer [] (replicate 14 0)) (refused 10 0)
     ∷ case (reportAnswer [] (replicate 15 0)) (done (15 ∷ []))
@@ -244,7 +255,11 @@ bufferCases =
     ∷ case (leaves (runLedger mayFill fills (replicate 11 255))) (leaves (replicate 11 255))
     ∷ case (leaves (runLedger mayFill fills spare))
     (leaves ((0 ∷ 0 ∷ 0 ∷ 0 ∷ 1 ∷ 2 ∷ 0 ∷ 0 ∷ 7 ∷ 0 ∷ 0 ∷ 0 ∷ []) ++ replicate 8 255))
+    ∷ case (leaves (runLedger mayFill [] spare)) (leaves spare)
+    ∷ case (leaves (runImage mayFill [] spare)) (leaves mayFill)
     ∷ case (leaves (writeOutput 2 (event 1 0 7) spare)) (leaves spare)
+    ∷ case (leaves (writeOutput 2 [] spare)) (leaves spare)
+    ∷ case (leaves (readOutput 2 [] spare)) (leaves spare)
     ∷ case (leaves (writeOutput 2 (event 1 0 7) (replicate 512 255 ++ spare)))
     (leaves (block 0 1 (event 1 0 7) ++ spare))
     ∷ case (leaves (readOutput 2 (block 0 1 (event 2 0 7)) spare)) (leaves spare)
@@ -268,11 +283,11 @@ every-boundary = refl
 -- ---- too long, which no list here is long enough to show
 
 -- the most blocks, the most events pass the test of length
-pub longest-tape : (s : List ℕ) → length s ≡ 512 * 65536 → lengthVerdict 512 1 mostBlocks s ≡ Fine
+pub longest-tape : (s : List ℕ) → length s ≡ 512 * 65536 → lengthVerdict 512 mostBlocks s ≡ Fine
 unfolding lengthVerdict
 longest-tape s e = rw e
 
-pub longest-list : (s : List ℕ) → length s ≡ 8 * 4128768 → lengthVerdict 8 1 mostEvents s ≡ Fine
+pub longest-list : (s : List ℕ) → length s ≡ 8 * 4128768 → lengthVerdict 8 mostEvents s ≡ Fine
 unfolding lengthVerdict
 longest-list s e = rw e
 

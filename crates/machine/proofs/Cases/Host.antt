@@ -37,6 +37,7 @@ doneCases =
     case (told (stepAnswer mayFill (event 1 2 0)) 81) (reads 0 (word 2 ++ (word 7 ++ (replicate 64 0 ++ (255 ∷ [])))))
     ∷ case (told (stepAnswer ring (event 1 7 0)) 80) (reads 0 (replicate 80 0))
     ∷ case (told (runAnswer ring (tapeOf (event 1 0 7)) []) 80) (reads 0 (word 1 ++ replicate 72 0))
+    ∷ case (told (runAnswer mayFill [] []) 81) (reads 0 (replicate 80 0 ++ (255 ∷ [])))
     ∷ case (told (stoppedAnswer ring) 80) (reads 0 (word 1 ++ replicate 72 0))
     ∷ case (told (stoppedAnswer mayFill) 81) (reads 0 (replicate 80 0 ++ (255 ∷ [])))
     -- in their order, the lowest byte of each first
@@ -62,6 +63,7 @@ shortCases =
     case (told (stepAnswer mayFill (event 1 2 0)) 79) (reads 10 (slice 79))
     ∷ case (told (stepAnswer mayFill (event 1 8 0)) 79) (reads 5 (slice 79))
     ∷ case (told (runAnswer mayFill (tapeOf (event 1 2 0)) []) 79) (reads 10 (slice 79))
+    ∷ case (told (runAnswer mayFill [] []) 79) (reads 10 (slice 79))
     ∷ case (told (stoppedAnswer []) 0) (reads 3 [])
     ∷ case (told (stoppedAnswer ring) 0) (reads 10 [])
     ∷ []

@@ -59,7 +59,8 @@ answers =
     ∷ case (loadAnswer 4 2147483646 1 room) (done (512 ∷ []))
     ∷ case (loadAnswer 4 2147483647 1 room) (refused 11 0)
     ∷ case (loadAnswer 4 4294967297 1 room) (refused 11 0)
-    ∷ case (loadAnswer 4 1 0 room) (refused 6 0)
+    ∷ case (loadAnswer 4 1 0 room) (done (0 ∷ []))
+    ∷ case (loadAnswer 4 1 0 []) (done (0 ∷ []))
     ∷ case (loadAnswer 4 1 63 room) (done (512 ∷ []))
     ∷ case (loadAnswer 4 1 64 room) (done (1024 ∷ []))
     ∷ case (loadAnswer 4 1 4128769 room) (refused 6 0)
@@ -68,8 +69,8 @@ answers =
     ∷ case (loadAnswer 4 1 1 []) (refused 10 0)
     -- 1 before 11, 11 before 6, 6 before 10
     ∷ case (loadAnswer 1 0 1 room) (refused 1 0)
-    ∷ case (loadAnswer 4 0 0 room) (refused 11 0)
-    ∷ case (loadAnswer 4 1 0 []) (refused 6 0)
+    ∷ case (loadAnswer 4 0 4128769 room) (refused 11 0)
+    ∷ case (loadAnswer 4 1 4128769 []) (refused 6 0)
     ∷ []
 
 -- ---- the output
@@ -81,6 +82,7 @@ abbrev outputs : List Case
 outputs =
     case (done (loadOutput 4 0 1 spare)) (done spare)
     ∷ case (done (loadOutput 4 1 1 spare)) (done spare)
+    ∷ case (done (loadOutput 4 1 0 spare)) (done spare)
     ∷ case (done (loadOutput 4 1 1 (replicate 512 255 ++ spare))) (done (tapeOf (event 3 1 0) ++ spare))
     ∷ []
 

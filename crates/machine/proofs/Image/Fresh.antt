@@ -17,8 +17,9 @@ use Rattle.machine.specs.Ring.{imageLength, recordAt}
 use Rattle.machine.specs.Fields.{Status, full, empty, none, for, blank, withHave}
 use Rattle.machine.specs.Image.{headerBytes, processBytes, recordBytes, imageWith, sizeIn, stateIn}
 use Rattle.machine.specs.Sound.{places, stageFits, stagesFit, markedSet, restFits, sound}
-use Rattle.machine.specs.Fresh.{freshState}
-use Rattle.machine.specs.Events.{processAt}
+use Rattle.machine.specs.Fresh.{freshEnvelope, freshState}
+use Rattle.machine.specs.Events.{processAt, work, signal, receive, takeRequest, put, react}
+use Rattle.machine.specs.Stopped.{quiet, stopped}
 use Rattle.machine.specs.Refusals.{imageVerdict}
 use Rattle.machine.specs.Answers.{freshVerdict, freshImage}
 use Rattle.machine.proofs.Laws.Lists.{all-at}
@@ -140,6 +141,11 @@ fresh-fits n k h =
       fresh-marks full n k,
       fresh-marks empty n k,
     )
+
+-- no event of codes 2 to 7 finds anything to do
+pub fresh-stopped : (n k : ℕ) → stopped (freshState n k) ≡ true
+unfolding stopped freshState quiet all react work signal receive takeRequest put
+fresh-stopped n k = all-fresh (quiet freshEnvelope) n k refl refl
 
 pub length-fresh : (n k : ℕ) → length (freshState n k .processes) ≡ n
 unfolding freshState

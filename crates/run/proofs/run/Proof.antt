@@ -6,7 +6,7 @@ use Rattle.machine.specs.declared.Verdict.the-variants.{Fine}
 use Rattle.machine.specs.Image.{sizeIn}
 use Rattle.machine.specs.Refusals.{orElse, codes, imageVerdict, tapeVerdict}
 use Rattle.numbers.proofs.Verdicts.{handed-on}
-use Rattle.run.proofs.Ways.{run-refused, run-accepted, some-event, playable, ledger-refused, run-done}
+use Rattle.run.proofs.Ways.{run-refused, run-accepted, block-events, playable, ledger-refused, run-done}
 use Rattle.run.proofs.run.Statement.{statement}
 use Rattle.run.proofs.run.Tie as tie
 
@@ -43,14 +43,14 @@ returns-2 c =
     ledger-refused (a .image .now) (a .tape .now) (a .ledger .now) (fine f) counted (c .before .has-room .ensures)
     (not-true _ (c .if1 .taken))
 
--- one event or none may be asked for too: that not all are performed would show in what the call returns
+-- an event a block, or none, may be asked for too: that not all are performed would show in what the call returns
 replay-requires : tie.Need-replay-requires
 replay-requires c κs =
     let f = c .before .before .before .before .before .before in
     let a = f .before .before .before .before .before .before .before .args in
     let counted = c .before .before .before .before .before .event-count .ensures in
     playable (a .image .now) (a .tape .now) (a .ledger .now) (fine f)
-    (omega (arith, some-event (a .image .now) (a .tape .now) (a .ledger .now) (fine f)))
+    (omega (arith, block-events (a .image .now) (a .tape .now) (a .ledger .now) (fine f)))
 
 returns-3 : tie.Need-returns-3
 returns-3 c =

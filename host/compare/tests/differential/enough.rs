@@ -1,7 +1,7 @@
 //! How much must be exercised, at the least, for the comparison to mean anything.
 
 use crate::refusals;
-use crate::tally::{Tally, CROSSINGS, CROSSING_LIST, OUTCOMES, WAYS};
+use crate::tally::{Tally, CROSSINGS, CROSSING_LIST, NO_EVENTS, OUTCOMES, WAYS};
 use compare::counts::Missing;
 use compare::watch::key;
 
@@ -17,6 +17,8 @@ const OUTCOME: u64 = 2_000;
 const CROSSING: u64 = 1_000;
 /// The least lists of crossings that are replayed.
 const LISTS: u64 = 120;
+/// The least runs of no events.
+const RUNS_OF_NOTHING: u64 = 1_900;
 /// The least times that a step takes each way.
 const WAY: u64 = 60;
 /// The least refusals by each cause.
@@ -39,6 +41,7 @@ pub fn missing(tally: &Tally) -> Missing {
         ways.iter().for_each(|way| missing.least(way, tally.ways.of(way), due));
     }
     missing.least(CROSSING_LIST, tally.ways.of(&CROSSING_LIST), LISTS);
+    missing.least(NO_EVENTS, tally.ways.of(&NO_EVENTS), RUNS_OF_NOTHING);
     for key in refusals::keys() {
         missing.least(&key, tally.refusals.of(&key), CAUSE);
     }

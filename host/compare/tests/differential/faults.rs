@@ -34,9 +34,12 @@ fn every_planted_fault_is_found_and_shrunk() {
         plain::<12>(),
         plain::<13>(),
         plain::<14>(),
+        plain::<18>(),
+        plain::<19>(),
+        plain::<20>(),
     ];
-    let (names, of_loads) = FAULTS.split_at(faulty.len());
-    assert!(of_loads.iter().all(|name| name.contains("load")), "every planted fault has its turn");
+    let names: Vec<&str> = FAULTS.into_iter().filter(|name| !name.contains("load")).collect();
+    assert_eq!(names.len(), faulty.len(), "every planted fault has its turn");
     for (faulty, name) in faulty.into_iter().zip(names) {
         let sides = [PROVED, faulty];
         let (_, find) = work(sides, 1);

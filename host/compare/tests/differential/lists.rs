@@ -56,7 +56,7 @@ fn any_call(image: &[u8], n: usize, wrong: &Wrong, random: &mut Random) -> Case 
 
 /// A run on this image, with a ledger that is roomy, just enough, or too short.
 fn any_run(image: Vec<u8>, random: &mut Random) -> Case {
-    let many = random.within(1, 200);
+    let many = random.within(0, 200);
     let wishes = random.pick(&[Wishes::Puts(50), Wishes::Puts(90), Wishes::Puts(10), Wishes::Seldom]);
     let list = swept(&image, many, wishes, random);
     let tape = Tape::of(&list);

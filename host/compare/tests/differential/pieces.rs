@@ -67,6 +67,7 @@ fn short_kinds() -> Vec<(&'static str, Kind)> {
         ("runs: guided", runs::guided_runs),
         ("runs: uniform", runs::uniform_runs),
         ("runs: every count", runs::every_count),
+        ("runs: no events", runs::no_events),
         ("runs: halves of 0", runs::zero_halves),
     ]
 }

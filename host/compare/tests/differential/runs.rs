@@ -4,9 +4,11 @@ use crate::case::Case;
 use crate::image::{fresh, sound};
 use crate::steps::longer;
 use crate::sweep::{swept, Wishes};
+use crate::tally::NO_EVENTS;
 use crate::{Watch, Work};
 use compare::damage::{any_event, second_sum_to_zero, sum_to_zero};
 use compare::tape::{event, Block, Event, Tape, MOST_BLOCKS, SLOTS};
+use compare::watch::Found;
 use guide::{guided, Random};
 
 /// Long runs, one after another on one image, with a ledger that has room for a record an event, or just enough.
@@ -40,12 +42,28 @@ pub fn uniform_runs(watch: &mut Watch, n: usize, random: &mut Random) -> Work<()
     Ok(())
 }
 
-/// Tapes of every number of events from 1 to 130, that is up to three blocks, and of whole blocks.
+/// Tapes of every number of events from 0 to 130, that is up to three blocks, and of whole blocks.
 pub fn every_count(watch: &mut Watch, n: usize, random: &mut Random) -> Work<()> {
     let mut image = fresh(n, random.index(n));
-    for many in (1..=130).chain([SLOTS * 5, SLOTS * 6 + 1, SLOTS * 300]) {
+    for many in (0..=130).chain([SLOTS * 5, SLOTS * 6 + 1, SLOTS * 300]) {
         let list = swept(&image, many, Wishes::Puts(50), random);
         image = run(watch, image, &list, random.flip())?;
+    }
+    Ok(())
+}
+
+/// Tapes of no events, on fresh rings and sound images, with ledgers of every length up to some records: all counts are
+/// 0, and image and ledger are as they were.
+pub fn no_events(watch: &mut Watch, n: usize, random: &mut Random) -> Work<()> {
+    for ledger in 0..=30 {
+        let image = if ledger % 4 == 0 { fresh(n, random.index(n)) } else { sound(random, n) };
+        let case = Case::run(longer(image, random), Tape::default(), ledger, random.pick(&[80, 81, 100]));
+        let answer = watch.accepted(&case)?;
+        let counted = (0..10).any(|word| answer.word(word) != Some(0));
+        if counted || answer.image != case.image || answer.output != answer.lent {
+            return Err(Found::new(&case, vec!["both count something, or change image or ledger".to_string()]));
+        }
+        watch.tally.count_way(NO_EVENTS);
     }
     Ok(())
 }

@@ -90,6 +90,9 @@ pub const CROSSINGS: [&str; 4] = [
 /// A known list of a crossing, replayed.
 pub const CROSSING_LIST: &str = "list of a crossing";
 
+/// A run of no events.
+pub const NO_EVENTS: &str = "run of no events";
+
 impl watch::Tally for Tally {
     type Case = Case;
 

@@ -71,14 +71,17 @@ load 4 1 4128768 33554431 = refused 10 at 0
 load 4 1 4128769 33554432 = refused 6 at 0
 # first N, then the seed, then the count, then the output
 load 1 0 1 512 = refused 1 at 0
-load 65 1 0 512 = refused 1 at 0
+load 65 1 4128769 512 = refused 1 at 0
 load 1 1 1 0 = refused 1 at 0
-load 4 0 0 512 = refused 11 at 0
 load 4 0 4128769 512 = refused 11 at 0
 load 4 2147483647 1 0 = refused 11 at 0
-load 4 1 0 0 = refused 6 at 0
 load 4 1 4128769 0 = refused 6 at 0
-load 65 0 0 0 = refused 1 at 0";
+load 65 0 4128769 0 = refused 1 at 0
+# no events
+load 4 1 0 512 = filled 0
+load 64 2147483646 0 0 = filled 0
+load 65 1 0 0 = refused 1 at 0
+load 4 0 0 0 = refused 11 at 0";
 
 /// Lines `CALL N EVENTS LENGTH ROOM CHANGES = ANSWER`: the call for N, with an output of ROOM bytes, on the first
 /// LENGTH bytes of the list of so many events for 64 processes, or of its tape, changed. `AT:VALUE` sets a byte, and
@@ -87,6 +90,17 @@ const ANSWERS: &str = "\
 # a tape cut off after a whole block, and a list after a whole event
 read 64 64 512 504 = filled 504
 write 64 64 504 512 = filled 512
+# no bytes, and blocks with count 0: alone with its event, alone with none, behind a full one, and before another
+read 64 1 0 504 = filled 0
+read 2 1 0 0 = filled 0
+write 64 1 0 512 = filled 0
+write 2 1 0 0 = filled 0
+read 1 1 0 0 = refused 1 at 0
+write 65 1 0 0 = refused 1 at 0
+read 64 1 512 8 2:0 seal:0 = refused 8 at 0
+read 64 1 512 8 2:0 12:0 13:0 14:0 15:0 4:0 5:0 6:0 7:0 = refused 8 at 0
+read 64 64 1024 512 514:0 seal:1 = refused 8 at 1
+read 64 64 1024 512 2:0 seal:0 = refused 8 at 0
 # both halves of the right check are 0
 read 64 1 512 8 12:251 13:255 14:3 15:0 seal:0 = filled 8
 read 64 1 512 8 12:251 13:255 14:3 15:0 4:0 5:0 6:0 7:0 = filled 8

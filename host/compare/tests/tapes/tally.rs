@@ -16,6 +16,8 @@ pub struct Tally {
     pub events: u64,
     /// Loads, by N.
     loads: Counts<u64>,
+    /// Calls of writer, reader and load with no events, by name.
+    nothing: Counts<&'static str>,
     /// Refusals, by call, number and cause.
     refusals: Counts<String>,
 }
@@ -27,6 +29,7 @@ impl watch::Tally for Tally {
         self.calls += 1;
         if answer.number == 0 {
             self.events += case.events() as u64;
+            self.nothing.add(case.name(), u64::from(case.events() == 0));
             if let Call::Load(..) = case.call {
                 self.loads.add(case.n, 1);
             }
@@ -44,6 +47,9 @@ impl Tally {
         let mut missing = Missing::default();
         missing.least("events", self.events, 24_000_000);
         (2..=64).for_each(|n| missing.least(&format!("loads for N = {n}"), self.loads.of(&n), 90));
+        for call in ["write", "read", "load"] {
+            missing.least(&format!("{call} of no events"), self.nothing.of(&call), 500);
+        }
         let mut least = |call: &str, number: u64, cause: &str, least: u64| {
             let key = key(call, number, cause);
             missing.least(&key, self.refusals.of(&key), least);
@@ -51,17 +57,14 @@ impl Tally {
         least("fresh", 2, "home not below N", 500);
         least("fresh", 2, "home not below N, no output", 500);
         least("fresh", 3, "image buffer short", 10_000);
-        least("write", 6, "empty", 63);
         least("write", 6, "ragged", 400);
         least("write", 6, "ragged, with wrong events", 400);
         for cause in ["seed 0", "seed above 2,147,483,646"] {
             least("load", 11, cause, 63);
             least("load", 11, &format!("{cause}, and all else wrong"), 63);
         }
-        for cause in ["no events", "too many events"] {
-            least("load", 6, cause, 126);
-            least("load", 6, &format!("{cause}, and no output"), 126);
-        }
+        least("load", 6, "too many events", 126);
+        least("load", 6, "too many events, and no output", 126);
         for call in ["fresh", "write", "read", "load"] {
             least(call, 1, "N outside 2 to 64", 20);
             least(call, 10, "result under 80 bytes", 5_000);

@@ -50,7 +50,7 @@ fn the_first_event_of_seed_1_for_4_is_a_get_of_process_3() {
 fn a_load_is_the_tape_of_the_events_drawn() {
     for n in 2..=64 {
         for seed in [1, 2, 16_807, 2_147_483_645, MOST_SEED, 1_000_003 * n] {
-            for count in [1, 2, 62, 63, 64, 125, 126, 127, 1_000] {
+            for count in [0, 1, 2, 62, 63, 64, 125, 126, 127, 1_000] {
                 let expected = tape(n, &drawn(n, seed, count));
                 let (answer, output) = load::<0>(n, seed, count as u64, expected.len());
                 assert_eq!(answer, done(&[expected.len() as u64]));
@@ -85,14 +85,15 @@ fn a_load_is_refused_by_1_then_11_then_6_then_10() {
         answer
     };
     for n in [0, 1, 65, 256 + 4, (1 << 32) + 4, u64::MAX] {
-        assert_eq!(refusal(n, 0, 0, 0), refused(1, 0));
+        assert_eq!(refusal(n, 0, u64::MAX, 0), refused(1, 0));
         assert_eq!(refusal(n, 1, 63, 512), refused(1, 0));
     }
     for seed in [0, MOST_SEED + 1, 1 << 31, 1 << 32, (1 << 32) + 1, 1 << 63, u64::MAX] {
+        assert_eq!(refusal(4, seed, u64::MAX, 0), refused(11, 0));
         assert_eq!(refusal(4, seed, 0, 0), refused(11, 0));
         assert_eq!(refusal(4, seed, 63, 512), refused(11, 0));
     }
-    for count in [0, MOST_EVENTS + 1, 1 << 32, (1 << 32) + 1, 1 << 63, u64::MAX] {
+    for count in [MOST_EVENTS + 1, 1 << 32, (1 << 32) + 1, 1 << 63, u64::MAX] {
         assert_eq!(refusal(4, 1, count, 0), refused(6, 0));
         assert_eq!(refusal(4, MOST_SEED, count, 1_024), refused(6, 0));
     }
@@ -111,9 +112,17 @@ fn a_short_result_stays_and_is_10_last() {
         let mut result = vec![0xA5; length];
         let mut output = [0xA5; 512];
         let mut number = |n, seed, count| plain::ring_load::<0>(n, seed, count, &mut output, &mut result);
-        assert_eq!([number(1, 0, 0), number(4, 0, 0), number(4, 1, 0), number(4, 1, 64)], [1, 11, 6, 10]);
-        assert_eq!(number(4, 1, 63), 10);
+        let many = u64::MAX;
+        assert_eq!([number(1, 0, many), number(4, 0, many), number(4, 1, many), number(4, 1, 64)], [1, 11, 6, 10]);
+        assert_eq!([number(4, 1, 63), number(4, 1, 0)], [10, 10]);
         assert_eq!((result, output), (vec![0xA5; length], [0xA5; 512]));
+    }
+}
+
+#[test]
+fn a_load_of_no_events_leaves_its_output() {
+    for room in [0, 1, 511, 512, 513] {
+        assert_eq!(load::<0>(4, 1, 0, room), (done(&[0]), vec![0xA5; room]));
     }
 }
 
@@ -133,7 +142,7 @@ fn faults_of_loads_are_seen() {
     assert_ne!(load::<15>(4, 1, 2, 512), load::<0>(4, 1, 2, 512));
     assert_eq!(load::<16>(4, MOST_SEED, 1, 512).0, refused(11, 0));
     assert_eq!(load::<16>(4, MOST_SEED - 1, 1, 512), load::<0>(4, MOST_SEED - 1, 1, 512));
-    assert_eq!(load::<17>(4, 0, 0, 512).0, refused(6, 0));
+    assert_eq!(load::<17>(4, 0, MOST_EVENTS + 1, 512).0, refused(6, 0));
 }
 
 #[test]

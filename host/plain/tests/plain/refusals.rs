@@ -36,9 +36,9 @@ fn arguments_come_first() {
     };
     for n in [0, 1, 65, 256 + 2, u64::MAX] {
         assert_eq!(fresh(n, u64::MAX, 0), refused(1, 0));
-        let write = answer(|result| plain::ring_write::<0>(n, &[], &mut [], result));
+        let write = answer(|result| plain::ring_write::<0>(n, &[0], &mut [], result));
         assert_eq!(write, refused(1, 0));
-        let read = answer(|result| plain::ring_read::<0>(n, &[], &mut [], result));
+        let read = answer(|result| plain::ring_read::<0>(n, &[0], &mut [], result));
         assert_eq!(read, refused(1, 0));
     }
     for home in [4, 5, 1 << 32, u64::MAX] {
@@ -63,11 +63,12 @@ fn an_image_is_refused_by_length_size_length_and_rest() {
             let mut image = vec![0xFF; length];
             image[0] = size;
             assert_eq!(step(&mut image, &[]), refused(3, 0));
-            assert_eq!(run(&mut image, &[], 0).0, refused(3, 0));
+            assert_eq!(run(&mut image, &[0], 0).0, refused(3, 0));
         }
         let mut image = vec![0; 16 + 8 * usize::from(size)];
         image[0] = size;
         assert_eq!(step(&mut image, &[]), refused(4, 0), "no envelope");
+        assert_eq!(run(&mut image, &[0], 0).0, refused(4, 0), "no envelope");
     }
 }
 
@@ -156,7 +157,7 @@ fn a_single_event_is_refused_at_0() {
 #[test]
 fn a_list_is_refused_by_length_then_by_event() {
     let write = |list: &[u8]| answer(|result| plain::ring_write::<0>(2, list, &mut [], result));
-    for length in (0..64).filter(|length| length % 8 != 0 || *length == 0) {
+    for length in (0..64).filter(|length| length % 8 != 0) {
         assert_eq!(write(&vec![255; length]), refused(6, 0));
     }
     let mut list = vec![0; 8 * 4_128_769];
@@ -169,7 +170,7 @@ fn a_list_is_refused_by_length_then_by_event() {
 
 #[test]
 fn a_tape_is_refused_by_length() {
-    for length in [0, 1, 511, 513, 1023, 512 * 65_537] {
+    for length in [1, 511, 513, 1023, 512 * 65_537] {
         assert_eq!(run_from_fresh(&vec![255; length]), refused(6, 0));
         let tape = vec![255; length];
         let read = answer(|result| plain::ring_read::<0>(2, &tape, &mut [], result));
@@ -190,6 +191,17 @@ fn a_block_is_refused_by_7_then_8_then_5_then_9() {
     assert_eq!(run_from_fresh(&last), refused(5, 126));
     let unused = altered(&tape, &[(1024 + 511, 1)]);
     assert_eq!(run_from_fresh(&unused), refused(9, 2));
+}
+
+/// Such a block is no tape of no events, whatever stands in its slots: alone, or behind a full one.
+#[test]
+fn a_block_of_no_events_is_refused_by_8() {
+    let nothing = altered(&[0; 512], &[]);
+    assert_eq!(nothing, [0; 512], "its check is 0");
+    assert_eq!(run_from_fresh(&nothing), refused(8, 0));
+    let full = &three_blocks()[..512];
+    assert_eq!(run_from_fresh(&altered(&[full, &nothing].concat(), &[(512, 1)])), refused(8, 1));
+    assert_eq!(run_from_fresh(&altered(&tape(2, &events("1.0")), &[(2, 0)])), refused(8, 0));
 }
 
 #[test]

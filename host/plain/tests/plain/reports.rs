@@ -47,9 +47,19 @@ fn the_event_number_counts_over_blocks() {
 fn a_missing_byte_reads_as_0() {
     assert_eq!(report(&[]), "refused 1 at 0\n");
     assert_eq!(report(&[1]), "refused 1 at 0\n");
-    assert_eq!(report(&[2]), "refused 6 at 0\n");
+    assert_eq!(report(&[2]), NOTHING);
     assert_eq!(report(&[2, 2]), "refused 2 at 0\n");
-    assert_eq!(report(&[2, 1]), "refused 6 at 0\n");
+}
+
+/// What is printed of a run of no events.
+const NOTHING: &str = "puts 0 gets 0 fills 0 takes 0 sent 0 got 0 idle 0\nstopped\n";
+
+#[test]
+fn no_blocks_are_no_events() {
+    for (n, home) in [(2, 0), (2, 1), (37, 36), (64, 0), (64, 63)] {
+        assert_eq!(report(&[n, home]), NOTHING);
+        assert_eq!(report(&[n, home, 0]), "refused 6 at 0\n");
+    }
 }
 
 #[test]

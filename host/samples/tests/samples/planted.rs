@@ -12,8 +12,8 @@ fn shown<const FAULT: u8>() -> Vec<String> {
 
 /// Left out are those that no ringrun can show: without 4's marker the next forward, which still has
 /// the asked bit, sets it all the same; the tapes are too short for 8; from a fresh ring no image is
-/// unsound as in 9; no result slice is printed (10); the ledger has room for all (11); and a ringrun
-/// makes no loads (15 to 17).
+/// unsound as in 9; no result slice is printed (10); the ledger has room for all (11); a ringrun
+/// makes no loads (15 to 17); and of a ledger without records no byte is printed (20).
 #[test]
 fn every_planted_fault_shows() {
     let found = [
@@ -26,6 +26,8 @@ fn every_planted_fault_shows() {
         (12, shown::<12>()),
         (13, shown::<13>()),
         (14, shown::<14>()),
+        (18, shown::<18>()),
+        (19, shown::<19>()),
     ];
     for (fault, samples) in found {
         assert!(!samples.is_empty(), "planted fault {fault} shows nowhere");
@@ -39,4 +41,20 @@ fn lists_for_a_rule_show_its_fault() {
     assert!(both.iter().all(|name| shown::<2>().contains(name)));
     assert!(shown::<3>().contains(&"rule-clear-then-forward-n2".into()));
     assert!(shown::<5>().contains(&"rule-mark-once-n3".into()));
+}
+
+/// Tapes of no events, and a block that has none.
+#[test]
+fn samples_of_no_events_show_its_faults() {
+    let none = [
+        "load-n4-home-0-seed-1-events-0",
+        "size-n-alone",
+        "size-n-alone-of-64",
+        "size-n-and-home",
+        "size-n-and-home-of-64",
+    ];
+    let mut refused = shown::<18>();
+    refused.sort();
+    assert_eq!(refused, none);
+    assert!(shown::<19>().contains(&"refused-8-count-0-of-zeros".into()));
 }

@@ -5,15 +5,16 @@ use samples::{all, Sample};
 use std::collections::BTreeSet;
 use vengloaz::{fresh, load, records, run, stopped, Refusal};
 
-/// What ringrun must print, by the proved calls and the package's own lines. Those know nothing of a missing N or home,
-/// nor of ringrun's most blocks; nothing is given where one of these is at fault.
+/// What ringrun must print, by the proved calls and the package's own lines. Those know nothing of ringrun's most
+/// blocks; nothing is given where these are at fault. A missing N or home is 0.
 fn proved(sample: &Sample) -> Option<String> {
-    let [n, home, tape @ ..] = &sample.input[..] else { return None };
+    let number = |at: usize| sample.input.get(at).copied().unwrap_or(0).into();
+    let tape = sample.input.get(2..).unwrap_or_default();
     if tape.len() > 64 * 512 {
         return None;
     }
     let refused = |refusal: Refusal| format!("refused {} at {}\n", refusal.number(), refusal.place());
-    Some(ran((*n).into(), (*home).into(), tape).unwrap_or_else(refused))
+    Some(ran(number(0), number(1), tape).unwrap_or_else(refused))
 }
 
 fn ran(n: u64, home: u64, tape: &[u8]) -> Result<String, Refusal> {
@@ -61,7 +62,7 @@ fn a_load_is_the_proved_one_of_its_name() {
         seen[if home == n - 1 { 3 } else { 4 }].insert(n);
     }
     let all_of = |at: usize, numbers: &[u64]| numbers.iter().all(|number| seen[at].contains(number));
-    assert!(all_of(0, &[2, 4, 37, 64]) && all_of(1, &[1, 2_147_483_646]) && all_of(2, &[1, 62, 63, 64, 4_032]));
+    assert!(all_of(0, &[2, 4, 37, 64]) && all_of(1, &[1, 2_147_483_646]) && all_of(2, &[0, 1, 62, 63, 64, 4_032]));
     assert!(all_of(3, &[2, 4, 37, 64]) && all_of(4, &[2, 4, 37, 64]), "the last process as home, and another");
     assert!(seen[1].len() > 4, "seeds between");
 }

@@ -21,7 +21,6 @@ fn faults(input: &[u8]) -> BTreeSet<Fault> {
         (1, "N below 2", n < 2),
         (1, "N above 64", n > 64),
         (2, "home not below N", home >= n),
-        (6, "tape empty", tape.is_empty()),
         (6, "tape ragged", !tape.len().is_multiple_of(512)),
         (6, "tape too long", tape.len() > 64 * 512),
     ];
@@ -69,11 +68,10 @@ fn causes(sample: &Sample) -> BTreeSet<Fault> {
 /// refusal. An event is never other than 8 bytes here.
 #[test]
 fn every_cause_is_there_at_the_start_and_further_on() {
-    let once: [Fault; 6] = [
+    let once: [Fault; 5] = [
         (1, "N below 2", false),
         (1, "N above 64", false),
         (2, "home not below N", false),
-        (6, "tape empty", false),
         (6, "tape ragged", false),
         (6, "tape too long", false),
     ];

@@ -95,6 +95,21 @@ fn a_message_keeps_all_its_bits() {
     }
 }
 
+/// No bytes are a tape of no events: after every event of entry 1 its run counts 0 and changes nothing.
+#[test]
+fn a_run_of_no_events() {
+    assert_eq!((write(2, &[]), read(2, &[]), load(2, 1, 0)), (Ok(vec![]), Ok(vec![]), Ok(vec![])));
+    let mut image = ring();
+    for event in events(ENTRY) {
+        step(&mut image, event).expect("entry 1 isn't refused");
+        let (before, mut ledger) = (image.clone(), [0xEE; 12]);
+        for length in [0, 1, 12] {
+            assert_eq!(run(&mut image, &[], &mut ledger[..length]), Ok(Counts::default()));
+        }
+        assert_eq!((&image, ledger), (&before, [0xEE; 12]));
+    }
+}
+
 /// Every ring and home: 16 + 8N bytes, all zero but N and the home's flag.
 #[test]
 fn fresh_rings() {
@@ -111,7 +126,7 @@ fn fresh_rings() {
 /// Lists about as long as one, two and many blocks: the tape is that of plain, and reads back as the list.
 #[test]
 fn lists_are_written_and_read_back() {
-    for length in [1, 2, 62, 63, 64, 125, 126, 127, 4032, 4033, 65_535] {
+    for length in [0, 1, 2, 62, 63, 64, 125, 126, 127, 4032, 4033, 65_535] {
         let list: Vec<Event> = (0..length).map(|k| Event::put((k % 64) as u8, 0xFFFF_FFFF - k)).collect();
         let bytes: Vec<u8> = list.iter().flat_map(|event| event.to_bytes()).collect();
         let written = write(64, &list).expect("these are events of a ring of 64");
@@ -134,7 +149,7 @@ fn a_load_has_the_events_of_its_seed() {
 fn loads_are_tapes_of_their_events() {
     for (n, seed) in [(2, 1), (3, 2_147_483_646), (37, 16_807), (64, 1_043_618_065)] {
         let longest = load(n, seed, 4_033).expect("it is a load");
-        for length in [1, 2, 62, 63, 64, 125, 126, 127, 4_032, 4_033] {
+        for length in [0, 1, 2, 62, 63, 64, 125, 126, 127, 4_032, 4_033] {
             let tape = load(n, seed, length as u64).expect("it is a load");
             assert!(tape == guide::load(n, seed, length), "{length} events");
             let list = read(n, &tape).expect("its tape is right");

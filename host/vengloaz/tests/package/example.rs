@@ -44,6 +44,19 @@ fn a_core_is_held_against_the_reference() {
     assert_eq!(short, (Some(1), format!("{counts}{line}"), String::new()));
 }
 
+/// A ring that nothing happens on: N alone, or N and home, and a ledger of no records.
+#[test]
+fn a_core_is_held_against_a_run_of_no_events() {
+    let counts = include_str!("../../../../samples/size-n-and-home.out").lines().collect::<Vec<_>>().join(", ") + "\n";
+    for sample in ["size-n-alone.in", "size-n-and-home.in"] {
+        let same = compared(sample, &[], "nothing");
+        assert_eq!(same, (Some(0), format!("{counts}the same, 0 records\n"), String::new()));
+    }
+    let line = "record 0: reference has none, core 7 1 fill 7\n";
+    let more = compared("size-n-and-home.in", &ledger(ENTRY)[..12], "one");
+    assert_eq!(more, (Some(1), format!("{counts}{line}"), String::new()));
+}
+
 #[test]
 fn what_cannot_be_compared_has_a_status_of_its_own() {
     let (status, out, error) = compared("refused-7-event-block-1.in", &[], "refused");

@@ -86,7 +86,13 @@ fn the_examples_in_bytes() {
 #[test]
 fn the_examples_in_words() {
     let shown = blocks("text");
-    let [(list_heading, list), (output_heading, output)] = &shown[..] else { panic!("{} texts", shown.len()) };
-    assert_eq!((*list_heading, events(list)), ("Event", events(ENTRY)));
-    assert_eq!((*output_heading, &output[..]), ("ringrun's output", include_str!("../../../../samples/entry-01.out")));
+    let [(heading, list), nothing, story] = &shown[..] else { panic!("{} texts", shown.len()) };
+    assert_eq!((*heading, events(list)), ("Event", events(ENTRY)));
+    let outputs = [
+        (nothing, include_str!("../../../../samples/size-n-and-home.out")),
+        (story, include_str!("../../../../samples/entry-01.out")),
+    ];
+    for ((heading, output), due) in outputs {
+        assert_eq!((*heading, &output[..]), ("ringrun's output", due));
+    }
 }

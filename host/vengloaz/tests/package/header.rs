@@ -290,7 +290,7 @@ fn loads(numbers: &Numbers) {
 /// The counts after each beginning of a list, in which each count goes its own way.
 fn words(numbers: &Numbers) {
     let list = events(&format!("{ENTRY} 1.0(8) 1.0(9) 0.2 0.4 1.3 1.7 0.6 0.7"));
-    for count in 1..=list.len() {
+    for count in 0..=list.len() {
         let tape = tape(&list[..count]);
         let mut result = [0xEE; 80];
         raw::ring_run(&mut ring(), &tape, &mut [0; 120], &mut result);

@@ -63,7 +63,6 @@ fn wrong_events() {
 
 #[test]
 fn lists_of_a_wrong_length() {
-    assert_refused(write(2, &[]), Refusal::Length, 6, 0);
     let mut longest = vec![Event::get(1); 4_128_768];
     assert_eq!(write(2, &longest).map(|tape| tape.len()), Ok(65_536 * 512));
     longest.push(Event::get(1));
@@ -78,7 +77,7 @@ fn seeds_and_counts_of_loads() {
         }
     }
     // None of these is lent an output, which for the greatest of them no machine has.
-    for count in [0, 4_128_769, 1 << 32, (1 << 32) + 1, 1 << 63, u64::MAX] {
+    for count in [4_128_769, 1 << 32, (1 << 32) + 1, 1 << 63, u64::MAX] {
         for seed in [1, 2_147_483_646] {
             assert_refused(load(2, seed, count), Refusal::Length, 6, 0);
         }
@@ -97,7 +96,7 @@ fn damaged_tapes() {
         assert_eq!((image, ledger), (ring(), [0xEE; 48]));
         assert_refused(read(2, tape), due, number, place);
     };
-    for length in [0, 511, 513, 3 * 512 - 1] {
+    for length in [1, 511, 513, 3 * 512 - 1] {
         refused(&good[..length], Refusal::Length, 6, 0);
     }
     let changed = |at: usize, to: u8, sealed: bool| {
@@ -111,6 +110,8 @@ fn damaged_tapes() {
     refused(&changed(512 + 100, 0xAA, false), Refusal::BlockCheck { block: 1 }, 7, 1);
     refused(&changed(2 * 512, 9, true), Refusal::BlockNumber { block: 2 }, 8, 2);
     refused(&changed(512 + 2, 62, true), Refusal::BlockNumber { block: 1 }, 8, 1);
+    refused(&changed(2 * 512 + 2, 0, true), Refusal::BlockNumber { block: 2 }, 8, 2);
+    refused(&[0; 512], Refusal::BlockNumber { block: 0 }, 8, 0);
     refused(&changed(512 + 8 + 8 * 5 + 1, 8, true), Refusal::Event { place: 68 }, 5, 68);
     refused(&changed(3 * 512 - 1, 1, true), Refusal::UnusedSlot { block: 2 }, 9, 2);
 }
