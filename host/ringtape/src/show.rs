@@ -60,7 +60,11 @@ fn tape(input: &[u8]) -> &[u8] {
 
 /// Every block, whole or not: its header, then the slots that are used or not zero.
 fn blocks(input: &[u8]) -> Vec<String> {
-    tape(input).chunks(512).enumerate().flat_map(|(at, block)| [vec![header(at, block)], slots(block)].concat()).collect()
+    tape(input)
+        .chunks(512)
+        .enumerate()
+        .flat_map(|(at, block)| [vec![header(at, block)], slots(block)].concat())
+        .collect()
 }
 
 fn header(at: usize, block: &[u8]) -> String {

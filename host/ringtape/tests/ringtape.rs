@@ -284,8 +284,8 @@ fn a_refused_input_is_shown_as_far_as_it_can_be_read() {
     assert_eq!(shown(&input), damaged);
     guide::seal(&mut input[2..]);
     input.extend([1, 0, 63, 0, 1, 2, 3]);
-    let ragged = "# refused 6 at 0: the length is wrong: a tape has up to 65536 blocks of 512 bytes, a list up to \
-                  4128768 events of 8 bytes, all whole, and ringrun takes up to 64 blocks\n# N 3\n# home 2\n\
+    let ragged = "# refused 6 at 0: the length is wrong: a tape has up to 65536 whole blocks of 512 bytes, a list or \
+                  load up to 4128768 events of 8 bytes, and ringrun takes up to 64 blocks\n# N 3\n# home 2\n\
                   # block 0: number 0, count 3, check right\n\
                   # 1.0(7) [02 03 05 00 00 00 00 00] 0.1(9)\n\
                   # unused slot 62: 00 00 00 00 00 00 00 ff\n\

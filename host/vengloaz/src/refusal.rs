@@ -124,8 +124,8 @@ impl fmt::Display for Refusal {
             ),
             Refusal::Length => write!(
                 out,
-                "the length is wrong: a tape has up to 65536 blocks of 512 bytes, a list up to 4128768 events of 8 \
-                 bytes, all whole, and ringrun takes up to 64 blocks"
+                "the length is wrong: a tape has up to 65536 whole blocks of 512 bytes, a list or load up to 4128768 \
+                 events of 8 bytes, and ringrun takes up to 64 blocks"
             ),
             Refusal::BlockCheck { block } => {
                 write!(out, "block {block} came damaged: its check isn't that of its bytes")

@@ -170,7 +170,7 @@ fn wrong_sizes(watch: &mut Watch, random: &mut Random) -> Work<()> {
         for wrong in [false, true] {
             let (output, result) = if wrong { (0, 0) } else { (4_096, 80) };
             let list = if wrong { vec![0xFF] } else { any_list(random, 2, 70) };
-            let tape = Tape::with_bytes(if wrong { &list } else { &Tape::of(list.as_chunks().0).bytes() });
+            let tape = if wrong { Tape::with_bytes(&list) } else { Tape::of(list.as_chunks().0) };
             let home = if wrong { u64::MAX } else { 0 };
             let load = if wrong { Call::Load(0, u64::MAX) } else { Call::Load(1, 70) };
             for call in [Call::Fresh(home), Call::Write(list.clone()), Call::Read(tape), load] {

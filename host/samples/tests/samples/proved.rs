@@ -6,15 +6,14 @@ use std::collections::BTreeSet;
 use vengloaz::{fresh, load, records, run, stopped, Refusal};
 
 /// What ringrun must print, by the proved calls and the package's own lines. Those know nothing of ringrun's most
-/// blocks; nothing is given where these are at fault. A missing N or home is 0.
+/// blocks; nothing is given where these are at fault.
 fn proved(sample: &Sample) -> Option<String> {
-    let number = |at: usize| sample.input.get(at).copied().unwrap_or(0).into();
-    let tape = sample.input.get(2..).unwrap_or_default();
+    let (n, home, tape) = parts(&sample.input);
     if tape.len() > 64 * 512 {
         return None;
     }
     let refused = |refusal: Refusal| format!("refused {} at {}\n", refusal.number(), refusal.place());
-    Some(ran(number(0), number(1), tape).unwrap_or_else(refused))
+    Some(ran(n.into(), home.into(), tape).unwrap_or_else(refused))
 }
 
 fn ran(n: u64, home: u64, tape: &[u8]) -> Result<String, Refusal> {

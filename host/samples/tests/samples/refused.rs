@@ -14,9 +14,7 @@ type Fault = (u8, &'static str, bool);
 
 /// All that is wrong with an input, whatever comes first.
 fn faults(input: &[u8]) -> BTreeSet<Fault> {
-    let n = input.first().copied().unwrap_or(0);
-    let home = input.get(1).copied().unwrap_or(0);
-    let tape = input.get(2..).unwrap_or_default();
+    let (n, home, tape) = parts(input);
     let of_input = [
         (1, "N below 2", n < 2),
         (1, "N above 64", n > 64),

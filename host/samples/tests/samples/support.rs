@@ -2,6 +2,12 @@
 
 use samples::Sample;
 
+/// N, home and the tape of an input; N or home is 0 where it is missing.
+pub fn parts(input: &[u8]) -> (u8, u8, &[u8]) {
+    let byte = |at: usize| input.get(at).copied().unwrap_or(0);
+    (byte(0), byte(1), input.get(2..).unwrap_or_default())
+}
+
 /// What ringrun must print for a sample.
 pub fn text(sample: &Sample) -> String {
     String::from_utf8(plain::report(&sample.input)).expect("it is text")
@@ -34,8 +40,8 @@ pub fn ends_stopped(sample: &Sample) -> bool {
 
 /// The image after all events of a sample that is accepted, by a step for each.
 pub fn last_image(sample: &Sample) -> Vec<u8> {
-    let [n, home, tape @ ..] = &sample.input[..] else { panic!("{} is short", sample.name) };
-    let mut image = guide::fresh(u64::from(*n), u64::from(*home));
+    let (n, home, tape) = parts(&sample.input);
+    let mut image = guide::fresh(n.into(), home.into());
     for block in tape.chunks(512) {
         let count = usize::from(block[2]);
         for event in block[8..8 + 8 * count].chunks(8) {

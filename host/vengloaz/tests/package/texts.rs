@@ -81,8 +81,8 @@ fn every_refusal_says_what_to_look_at() {
         "refused 4 at 0: the image is not sound: what wrote to it beside these calls?",
         "refused 5 at 70: event 70 is none of this ring: it has 8 bytes, a process below N, a code up to 7, zeros in \
          bytes 2 and 3, and a message only with code 0",
-        "refused 6 at 0: the length is wrong: a tape has 1 to 65536 whole blocks of 512 bytes, a list or load 1 to \
-         4128768 events, and ringrun takes up to 64 blocks",
+        "refused 6 at 0: the length is wrong: a tape has up to 65536 whole blocks of 512 bytes, a list or load up to \
+         4128768 events of 8 bytes, and ringrun takes up to 64 blocks",
         "refused 7 at 70: block 70 came damaged: its check isn't that of its bytes",
         "refused 8 at 70: block 70 has another number in bytes 0 and 1, or in bytes 2 and 3 a count that is not 63 (in \
          the last block 1 to 63)",
