@@ -28,7 +28,7 @@ use Rattle.calls.proofs.Demand.{demand-three}
 unfoldable pub offRing : List ℕ
 offRing = tapeOf (event 1 0 7 ++ event 2 0 7)
 
--- an event of no bytes and that tape are refused; where a run's answer has its puts, the tape's refusal has its place, 1
+-- an event of no bytes and that tape are refused; where a run's answer has its puts, the tape's refusal has place 1
 pub both-refused : (stepAnswer ring [] ≡ refused 5 0) × (runAnswer ring offRing [] ≡ refused 5 1)
 unfolding rules ring offRing
 both-refused = (refl, refl)

@@ -1,8 +1,9 @@
--- A tape of no events is no bytes, and an empty list is a list: document 02, A.2. What is tested of them is a row of no
--- tests, so nothing refuses them; what is written for them is nothing, so every buffer has room and keeps its bytes;
--- and an accepted image, read and written back, is the same image.
+-- No bytes are a tape of no events, and a list of none: document 02, A.2. What is tested of them is a row of no tests,
+-- so nothing refuses them; what is written for them is nothing, so every buffer has room and keeps its bytes; and an
+-- accepted image, read and written back, is the same image.
 use Prim.Native.Nat.{ℕ}
 use mathlib.Core.Path.{_≡_, refl}
+use mathlib.Core.Bool.{Bool, true}
 use mathlib.Core.List.{List, [], _∷_}
 use native.Mathlib.Omega.{arith}
 use lib.ListN.{length}
@@ -21,10 +22,10 @@ use Rattle.machine.proofs.Image.Fresh.{fresh-stopped}
 use Rattle.machine.proofs.Runs.{none-left}
 use Rattle.machine.proofs.Cases.Computed.{ofBytes, ofLists, ofRun, ofTape, ofRunCall, ofReport}
 
--- a tape and a list of no bytes, computed
-unfoldable ofNothing : ℕ
+-- what a tape and a list of no bytes compute by; the value means nothing, as in Computed
+unfoldable ofNothing : Bool
 unfolding ofBytes ofLists ofTape first lengthVerdict listVerdict tapeVerdict
-ofNothing = 0
+ofNothing = true
 
 -- every buffer has room for nothing
 room : (output : List ℕ) → outputVerdict 0 output ≡ Fine

@@ -105,7 +105,7 @@ eventVerdict codes n s = unless (eqb (length s) 8 && eventFits codes n s 0) (ref
 
 -- ---- 6: the length of a list or a tape
 
--- whole units, at most `most` of them; none at all will do
+-- whole units, at most `most` of them; none will do (document 02, A.2)
 unfoldable pub lengthVerdict : ℕ → ℕ → List ℕ → Verdict
 lengthVerdict unit most s = unless (eqb (length s % unit) 0 && leb (length s / unit) most) refusal.Length
 

@@ -1,5 +1,5 @@
--- Which lengths pass: whole units, none or up to so many as may be, and no other. The longest tape and list, and those that are too
--- long, stand with the rules (machine/proofs/Cases/Boundaries).
+-- Which lengths pass: whole units, none or up to so many as may be, and no other. The longest tape and list, and those
+-- that are too long, stand with the rules (machine/proofs/Cases/Boundaries).
 use Prim.Native.Nat.{ℕ, _*_, _/_, _≤_, _<_}
 use mathlib.Core.Path.{_≡_}
 use mathlib.Core.List.{List}

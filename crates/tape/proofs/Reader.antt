@@ -35,7 +35,9 @@ module _ (s : List ℕ) {k n total : ℕ} (fine : TapeFine k n s) (all : total �
   width-used b h = go (lt-or-ge (b + 1) (length s / 512))
     where
       go : (b + 1 < length s / 512) ⊎ (length s / 512 ≤ b + 1) → widthIn total b ≡ 8 * blockCount s b
-      go (inl before) = omega (arith, events-ranged s fine .whole, events-ranged s fine .least, fine .blocks b h .full before)
+      go (inl before) =
+          let range = events-ranged s fine in
+          omega (arith, range .least, fine .blocks b h .full before)
       go (inr last) =
           let here : length s / 512 - 1 ≡ b = omega arith in
           let rest : total ≡ 8 * (63 * b + blockCount s b) =

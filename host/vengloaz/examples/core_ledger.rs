@@ -5,8 +5,9 @@
 //! ```
 //!
 //! INPUT is what ringrun reads: N and home, a byte each, 0 where it is missing, then the tape that the core got, which
-//! may be longer than ringrun takes. LEDGER is what the core made of it. Exit status 0: the two ledgers are the same. 1: they differ, and the first difference is printed. 2: there is
-//! nothing to compare, since a file can't be read or the reference refuses the input.
+//! may be longer than ringrun takes. LEDGER is what the core made of it. Exit status 0: the two ledgers are the same.
+//! 1: they differ, and the first difference is printed. 2: there is nothing to compare, since a file can't be read or
+//! the reference refuses the input.
 
 use std::error::Error;
 use std::process::ExitCode;

@@ -11,7 +11,7 @@ use Rattle.machine.specs.declared.Refusal.the-variants as refusal
 use Rattle.machine.specs.Tape.{blockBytes, padded}
 use Rattle.machine.specs.Ring.{sizeFits}
 use Rattle.machine.specs.Image.{sizeIn}
-use Rattle.machine.specs.Refusals.{codes, lengthVerdict, mostBlocks, mostEvents}
+use Rattle.machine.specs.Refusals.{unless, first, codes, eventFits, lengthVerdict, blockVerdict}
 use Rattle.machine.specs.Refusals.{sizeVerdict, imageVerdict, listVerdict, tapeVerdict}
 use Rattle.machine.specs.Answers.{Answer, freshAnswer, freshImage, stepAnswer, stepImage}
 use Rattle.machine.specs.Answers.{runAnswer, runImage, runLedger, stoppedAnswer, writeAnswer, writeOutput}
@@ -282,14 +282,16 @@ every-boundary = refl
 
 -- ---- too long, which no list here is long enough to show
 
--- the most blocks, the most events pass the test of length
-pub longest-tape : (s : List ℕ) → length s ≡ 512 * 65536 → lengthVerdict 512 mostBlocks s ≡ Fine
-unfolding lengthVerdict
-longest-tape s e = rw e
+-- the most blocks, the most events pass the test of length: what is then refused is a block, an event
+pub longest-tape : (codes n : ℕ) (s : List ℕ) → length s ≡ 512 * 65536
+    → tapeVerdict codes n s ≡ first (blockVerdict codes n s) 0 65536
+unfolding tapeVerdict lengthVerdict
+longest-tape codes n s e = rw e
 
-pub longest-list : (s : List ℕ) → length s ≡ 8 * 4128768 → lengthVerdict 8 mostEvents s ≡ Fine
-unfolding lengthVerdict
-longest-list s e = rw e
+pub longest-list : (codes n : ℕ) (s : List ℕ) → length s ≡ 8 * 4128768
+    → listVerdict codes n s ≡ first (λ k. unless (eventFits codes n s (8 * k)) (refusal.Event k)) 0 4128768
+unfolding listVerdict lengthVerdict
+longest-list codes n s e = rw e
 
 -- one more is refused, whatever the bytes, the number of codes and N
 pub tape-too-long : (codes n : ℕ) (s : List ℕ) → length s ≡ 512 * 65537

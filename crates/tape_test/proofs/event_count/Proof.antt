@@ -5,13 +5,19 @@ use Rattle.tape_test.proofs.event_count.Statement.{statement}
 use Rattle.tape_test.proofs.event_count.Tie as tie
 
 returns : tie.Need-returns
-returns c = none-counted (c .before .before .args .tape .now) (c .before .before .pre) (c .if1 .taken)
+returns c =
+    let start = c .before .before in
+    none-counted (start .args .tape .now) (start .pre) (c .if1 .taken)
 
 sub-last : tie.Need-sub-last
-sub-last c = omega (arith, some-block (c .before .before .args .tape .now) (c .before .before .pre) (c .if1 .left))
+sub-last c =
+    let start = c .before .before in
+    omega (arith, some-block (start .args .tape .now) (start .pre) (c .if1 .left))
 
 word-at-requires : tie.Need-word-at-requires
-word-at-requires c κs = omega (arith, some-block (c .before .before .args .tape .now) (c .before .before .pre) (c .if1 .left))
+word-at-requires c κs =
+    let start = c .before .before in
+    omega (arith, some-block (start .args .tape .now) (start .pre) (c .if1 .left))
 
 returns-2 : tie.Need-returns-2
 returns-2 c =
