@@ -15,4 +15,5 @@ pub mod Text
 pub mod Report
 pub mod Tapes
 pub mod Loads
+pub mod Lengths
 pub mod NoEvents

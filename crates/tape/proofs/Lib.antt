@@ -12,4 +12,3 @@ pub mod Moved
 pub mod Word
 pub mod Damage
 pub mod Trips
-pub mod Lengths

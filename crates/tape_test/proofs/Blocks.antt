@@ -1,7 +1,7 @@
 -- What an accepted tape and an accepted list have, and that whatever has it is accepted: each verdict is a row of
 -- tests, taken apart here once, in both directions. The loops keep that the row from here on decides for all, since
 -- what came before is fine (machine/proofs/Laws/First); inside a block the same holds of its slots (Ways).
-use Prim.Native.Nat.{ℕ, _+_, _-_, _*_, _/_, _%_, _≤_, _<_}
+use Prim.Native.Nat.{ℕ, _+_, _-_, _*_, _/_, _≤_, _<_}
 use mathlib.Core.Path.{_≡_, refl}
 use mathlib.Core.Bool.{Bool, true, false, _&&_, _||_, or-true}
 use mathlib.Core.List.{List}
@@ -20,29 +20,7 @@ use Rattle.machine.specs.Refusals.{tapeVerdict}
 use Rattle.machine.proofs.Laws.Lists.{and-first, and-second}
 use Rattle.machine.proofs.Laws.Refusals.{unless-fine, first-fine, second-fine}
 use Rattle.machine.proofs.Laws.First.{first-fine-at, first-all-fine}
-
--- ---- the length
-
--- whole units, at most `most` of them
-pub record LengthFine (unit most : ℕ) (s : List ℕ) : Type 0 where
-  pub whole : length s % unit ≡ 0
-  pub few : length s / unit ≤ most
-
-module _ (unit most : ℕ) (s : List ℕ) where
-  pub length-fine : lengthVerdict unit most s ≡ Fine → LengthFine unit most s
-  unfolding lengthVerdict
-  length-fine e =
-      let whole = eqb (length s % unit) 0 in
-      let few = leb (length s / unit) most in
-      let fits = unless-fine (whole && few) refusal.Length e in
-      record {
-        whole = eqb-true (length s % unit) 0 (and-first whole few fits);
-        few = leb-true (length s / unit) most (and-second whole few fits);
-      }
-
-  pub fine-length : LengthFine unit most s → lengthVerdict unit most s ≡ Fine
-  unfolding lengthVerdict
-  fine-length h = rw (eq-eqb (length s % unit) 0 (h .whole), le-leb (length s / unit) most (h .few))
+use Rattle.machine.proofs.Lengths.{LengthFine, length-fine, fine-length}
 
 -- ---- a list
 

@@ -5,17 +5,11 @@ use Prim.Native.String.{String}
 use mathlib.Core.Path.{_≡_, refl}
 use mathlib.Core.Bool.{true}
 use mathlib.Core.List.{List, [], _∷_, _++_}
-use lib.ListN.{length, set, take, replicate}
-use Rattle.machine.specs.declared.Verdict.the-variants.{Fine, Refused}
-use Rattle.machine.specs.declared.Refusal.the-variants as refusal
+use lib.ListN.{set, take, replicate}
 use Rattle.machine.specs.Tape.{blockBytes, padded}
-use Rattle.machine.specs.Ring.{sizeFits}
-use Rattle.machine.specs.Image.{sizeIn}
-use Rattle.machine.specs.Refusals.{unless, first, codes, eventFits, lengthVerdict, blockVerdict}
-use Rattle.machine.specs.Refusals.{sizeVerdict, imageVerdict, listVerdict, tapeVerdict}
 use Rattle.machine.specs.Answers.{Answer, freshAnswer, freshImage, stepAnswer, stepImage}
 use Rattle.machine.specs.Answers.{runAnswer, runImage, runLedger, stoppedAnswer, writeAnswer, writeOutput}
-use Rattle.machine.specs.Answers.{readAnswer, readOutput, readVerdict, writeVerdict, runVerdict}
+use Rattle.machine.specs.Answers.{readAnswer, readOutput}
 use Rattle.machine.specs.Text.{text}
 use Rattle.machine.specs.Report.{reportText, reportAnswer, reportOutput}
 use Rattle.machine.proofs.Cases.Computed.{rules}
@@ -279,42 +273,3 @@ cases =
 pub every-boundary : met cases ≡ true
 unfolding rules mayFill
 every-boundary = refl
-
--- ---- too long, which no list here is long enough to show
-
--- the most blocks, the most events pass the test of length: what is then refused is a block, an event
-pub longest-tape : (codes n : ℕ) (s : List ℕ) → length s ≡ 512 * 65536
-    → tapeVerdict codes n s ≡ first (blockVerdict codes n s) 0 65536
-unfolding tapeVerdict lengthVerdict
-longest-tape codes n s e = rw e
-
-pub longest-list : (codes n : ℕ) (s : List ℕ) → length s ≡ 8 * 4128768
-    → listVerdict codes n s ≡ first (λ k. unless (eventFits codes n s (8 * k)) (refusal.Event k)) 0 4128768
-unfolding listVerdict lengthVerdict
-longest-list codes n s e = rw e
-
--- one more is refused, whatever the bytes, the number of codes and N
-pub tape-too-long : (codes n : ℕ) (s : List ℕ) → length s ≡ 512 * 65537
-    → tapeVerdict codes n s ≡ Refused refusal.Length
-unfolding tapeVerdict lengthVerdict
-tape-too-long codes n s e = rw e
-
-pub list-too-long : (codes n : ℕ) (s : List ℕ) → length s ≡ 8 * 4128769
-    → listVerdict codes n s ≡ Refused refusal.Length
-unfolding listVerdict lengthVerdict
-list-too-long codes n s e = rw e
-
--- so the reader, the writer and the run refuse it 6, at 0
-module _ (n : ℕ) (s output : List ℕ) (size : sizeFits n ≡ true) where
-  pub read-too-long : length s ≡ 512 * 65537 → readAnswer n s output ≡ refused 6 0
-  unfolding readAnswer readVerdict sizeVerdict
-  read-too-long e = rw (size, tape-too-long codes n s e)
-
-  pub write-too-long : length s ≡ 8 * 4128769 → writeAnswer n s output ≡ refused 6 0
-  unfolding writeAnswer writeVerdict sizeVerdict
-  write-too-long e = rw (size, list-too-long codes n s e)
-
-pub run-too-long : (image s ledger : List ℕ) → imageVerdict image ≡ Fine → length s ≡ 512 * 65537
-    → runAnswer image s ledger ≡ refused 6 0
-unfolding runAnswer runVerdict
-run-too-long image s ledger fine e = rw (fine, tape-too-long codes (sizeIn image) s e)
