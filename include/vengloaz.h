@@ -32,8 +32,9 @@ uint64_t ring_step(uint8_t *image, size_t image_length, const uint8_t *event, si
                    size_t result_length);
 
 /* Performs every event of a tape on an image, and writes a record for each fill, take, sent and got to the start of the
- * ledger, whose further bytes are kept. A tape of length 0 has no events: the image is tested, and nothing changes.
- * Told: RING_WORD_PUTS to RING_WORD_RECORDS. Refusals 3, 4; 6, then block by block 7, 8, 5, 9; 10. */
+ * ledger, whose further bytes are kept. A tape of length 0, whose pointer isn't NULL either, has no events: the image
+ * is tested, and nothing changes. Told: RING_WORD_PUTS to RING_WORD_RECORDS. Refusals 3, 4; 6, then block by block 7,
+ * 8, 5, 9; 10. */
 uint64_t ring_run(uint8_t *image, size_t image_length, const uint8_t *tape, size_t tape_length, uint8_t *ledger,
                   size_t ledger_length, uint8_t *result, size_t result_length);
 
