@@ -10,10 +10,10 @@ use guide::Random;
 /// The greatest seed.
 pub const MOST_SEED: u64 = 2_147_483_646;
 
-/// Seeds that are 0 or too great, two of which would do if they were cut to 32 bits.
+/// Seeds that are 0 or too great, one of which would do if it were cut to 32 bits.
 const WRONG_SEEDS: [u64; 8] = [0, MOST_SEED + 1, 1 << 31, (1 << 32) - 1, 1 << 32, (1 << 32) + 1, 1 << 63, u64::MAX];
 
-/// Counts of too many events, two of which would do if they were cut to 32 bits.
+/// Counts of too many events, three of which would do if they were cut to 32 bits.
 const WRONG_COUNTS: [u64; 6] =
     [MOST_EVENTS as u64 + 1, MOST_EVENTS as u64 + 63, 1 << 32, (1 << 32) + 1, 1 << 63, u64::MAX];
 
