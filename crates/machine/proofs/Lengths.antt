@@ -1,6 +1,5 @@
 -- Refusal 6, exactly: of tapes all that aren't whole blocks, none or up to 65,536, and of lists all that aren't whole
--- events, none or up to 4,128,768. What passes is left to its blocks, its events. No list in Cases is long enough to
--- show it.
+-- events, none or up to 4,128,768. What passes is left to its blocks, its events. Cases has short lists alone.
 use Prim.Native.Nat.{ℕ, _*_, _/_, _%_, _≤_, _<_}
 use mathlib.Core.Path.{_≡_, refl}
 use mathlib.Core.Bool.{Bool, true, false, _&&_}

@@ -17,7 +17,7 @@ use Rattle.machine.specs.Answers.{answer, runEvents, runRecords, runVerd
 use Rattle.machine.specs.Answers.{writeVerdict, writeAnswer, writeOutput, readVerdict, readAnswer, readOutput}
 use Rattle.machine.specs.Load.{loadEvents, loadTape, loadVerdict, loadAnswer, loadOutput}
 use Rattle.machine.specs.Text.{text}
-use Rattle.machine.specs.Report.{reportText}
+use Rattle.machine.specs.Report.{reportVerdict, reportText}
 use Rattle.machine.proofs.Image.Fresh.{fresh-stopped}
 use Rattle.machine.proofs.Runs.{none-left}
 use Rattle.machine.proofs.Cases.Computed.{ofBytes, ofLists, ofRun, ofTape, ofRunCall, ofReport}
@@ -65,6 +65,11 @@ module _ (n : ℕ) (size : sizeVerdict n ≡ Fine) where
       → reportText (n ∷ home ∷ []) ≡ text "puts 0 gets 0 fills 0 takes 0 sent 0 got 0 idle 0\nstopped\n"
   unfolding ofNothing ofRun ofRunCall ofReport
   nothing-printed home below = rw (size, below, fresh-stopped n home) refl
+
+-- N alone is N and home 0
+pub home-missing : (n : ℕ) → reportText (n ∷ []) ≡ reportText (n ∷ 0 ∷ [])
+unfolding reportVerdict reportText
+home-missing n = refl
 
 -- a run of it, on every accepted image and with every ledger: eight counts of 0, and both as they were
 module _ (image ledger : List ℕ) (fine : imageVerdict image ≡ Fine) where

@@ -36,20 +36,20 @@ unfolding sizeVerdict seedVerdict countVerdict
 returns-3 c =
     let size = c .before .before .before in
     let from = seeded (size .before .args .seed) in
-    let some = few (size .before .args .count) in
+    let fits = few (size .before .args .count) in
     fine-then (test-passes refusal.Size (size .fits2 .ensures) (not-false _ (c .before .before .if1 .left))) refl
     (fine-then (test-passes {b = from} refusal.Seed refl (not-false from (c .before .if2 .left))) refl
-    (test-refuses {b = some} refusal.Length refl (not-true some (c .if3 .taken))))
+    (test-refuses {b = fits} refusal.Length refl (not-true fits (c .if3 .taken))))
 
 returns-4 : tie.Need-returns-4
 unfolding sizeVerdict seedVerdict countVerdict
 returns-4 c =
     let size = c .before .before .before in
     let from = seeded (size .before .args .seed) in
-    let some = few (size .before .args .count) in
+    let fits = few (size .before .args .count) in
     fine-then (test-passes refusal.Size (size .fits2 .ensures) (not-false _ (c .before .before .if1 .left))) refl
     (fine-then (test-passes {b = from} refusal.Seed refl (not-false from (c .before .if2 .left))) refl
-    (test-passes {b = some} refusal.Length refl (not-false some (c .if3 .left))))
+    (test-passes {b = fits} refusal.Length refl (not-false fits (c .if3 .left))))
 
 pub load-verdict-spec : {M : Type 1} → statement M
 load-verdict-spec = tie.close (tie.spec (λ c κs. tt) returns returns-2 returns-3 returns-4)
