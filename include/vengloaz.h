@@ -41,12 +41,16 @@ uint64_t ring_run(uint8_t *image, size_t image_length, const uint8_t *tape, size
 /* Whether no event of codes 2 to 7 is possible. Told: RING_WORD_STOPPED, 1 or 0. Refusals 3, 4; 10. */
 uint64_t ring_stopped(const uint8_t *image, size_t image_length, uint8_t *result, size_t result_length);
 
-/* ---- libring_tools.a: fresh ring, writer, reader and load */
+/* ---- libring_tools.a: fresh ring, survey, writer, reader and load */
 
 /* Writes the fresh ring of n processes, with the envelope at process home, to the start of an image buffer, whose
  * further bytes are kept. Told: nothing. Refusals 1, 2; 3; 10. */
 uint64_t ring_fresh(uint64_t n, uint64_t home, uint8_t *image, size_t image_length, uint8_t *result,
                     size_t result_length);
+
+/* Tells what one walk over an image's records finds; an image that isn't sound is answered too. Told: RING_WORD_VERDICT
+ * to RING_WORD_MARKED_EMPTY. Refusals 3; 4, for byte 0 alone; 10. */
+uint64_t ring_survey(const uint8_t *image, size_t image_length, uint8_t *result, size_t result_length);
 
 /* Writes the tape of a list of events for n processes to the start of an output, whose further bytes are kept: 512
  * bytes for each 63 events or part of them. Told: RING_WORD_FILLED, in bytes. Refusals 1; 6, 5; 10. */
@@ -84,10 +88,10 @@ enum ring_refusal {
 /* ---- the words of a result slice: word k is bytes 8k to 8k + 7 */
 
 enum ring_word {
-    RING_WORD_PLACE = 0,    /* of a refusal; 0 where it has none */
-    RING_WORD_OUTCOME = 0,  /* of a step: enum ring_outcome */
-    RING_WORD_MESSAGE = 1,  /* of a step: the message of a fill or a take, else 0 */
-    RING_WORD_PUTS = 0,     /* of a run: puts and gets started, then events by outcome, then records */
+    RING_WORD_PLACE = 0,          /* of a refusal; 0 where it has none */
+    RING_WORD_OUTCOME = 0,        /* of a step: enum ring_outcome */
+    RING_WORD_MESSAGE = 1,        /* of a step: the message of a fill or a take, else 0 */
+    RING_WORD_PUTS = 0,           /* of a run: puts and gets started, then events by outcome, then records */
     RING_WORD_GETS = 1,
     RING_WORD_FILLS = 2,
     RING_WORD_TAKES = 3,
@@ -95,8 +99,13 @@ enum ring_word {
     RING_WORD_GOT = 5,
     RING_WORD_IDLE = 6,
     RING_WORD_RECORDS = 7,
-    RING_WORD_STOPPED = 0,  /* of stopped: 1 or 0 */
-    RING_WORD_FILLED = 0    /* of writer, reader and load: bytes at the start of the output */
+    RING_WORD_STOPPED = 0,        /* of stopped: 1 or 0 */
+    RING_WORD_VERDICT = 0,        /* of a survey: the refusal of the image by step, run and stopped; 0 if it is sound */
+    RING_WORD_VERDICT_PLACE = 1,  /* of a survey: the place of that refusal */
+    RING_WORD_FLAGS = 2,          /* of a survey: how many have and arriving flags are set */
+    RING_WORD_MARKED_FULL = 3,    /* of a survey: the processes marked for full; bit i is process i */
+    RING_WORD_MARKED_EMPTY = 4,   /* of a survey: the processes marked for empty, likewise */
+    RING_WORD_FILLED = 0          /* of writer, reader and load: bytes at the start of the output */
 };
 
 /* Word k of a result slice. */

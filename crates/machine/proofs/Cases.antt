@@ -1,5 +1,5 @@
 -- Cases, computed but for two entries: the entries, each sentence of the events, every rule at its edge, each count in
--- its place, what the suite's host is told, and loads.
+-- its place, what the suite's host is told, loads, and surveys.
 pub mod Computed
 pub mod Case
 pub mod Entries
@@ -9,3 +9,4 @@ pub mod Boundaries
 pub mod Counts
 pub mod Host
 pub mod Loads
+pub mod Surveys

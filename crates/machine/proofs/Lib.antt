@@ -15,5 +15,6 @@ pub mod Text
 pub mod Report
 pub mod Tapes
 pub mod Loads
+pub mod Surveys
 pub mod Lengths
 pub mod NoEvents

@@ -1,5 +1,6 @@
 -- Documents 01 and 02 as definitions: words that rules are written in (Bytes, Lists, Fields), then 01's sections,
--- mostly in its order; of 02, Load. docs/PROOFS.md, "What must be believed", says which module is which section.
+-- mostly in its order; of 02, Load and Survey. docs/PROOFS.md, "What must be believed", says which module is which
+-- section.
 pub mod Bytes
 pub mod Lists
 pub mod Ring
@@ -17,6 +18,7 @@ pub mod Tape
 pub mod Refusals
 pub mod Answers
 pub mod Load
+pub mod Survey
 pub mod Host
 pub mod Text
 pub mod Report

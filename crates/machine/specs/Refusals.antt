@@ -78,13 +78,21 @@ homeVerdict n home = unless (ltb home n) refusal.Home
 unfoldable pub roomVerdict : ℕ → List ℕ → Verdict
 roomVerdict n s = unless (leb (imageLength n) (length s)) refusal.Short
 
--- in this order: no room for a header (3), a size that no ring has (4), no room for the records (3), not sound (4)
-unfoldable pub imageVerdict : List ℕ → Verdict
-imageVerdict s =
+-- before the image's bytes are looked at, in this order: no room for a header (3), a size that no ring has (4), no room
+-- for the records (3)
+unfoldable pub frontVerdict : List ℕ → Verdict
+frontVerdict s =
     orElse (unless (leb 16 (length s)) refusal.Short)
     (orElse (unless (sizeFits (sizeIn s)) refusal.Unsound)
-    (orElse (roomVerdict (sizeIn s) s)
-    (unless (sound s) refusal.Unsound)))
+    (roomVerdict (sizeIn s) s))
+
+-- of an image with room: not sound (4)
+unfoldable pub soundVerdict : List ℕ → Verdict
+soundVerdict s = unless (sound s) refusal.Unsound
+
+-- an image: these tests, then soundness
+unfoldable pub imageVerdict : List ℕ → Verdict
+imageVerdict s = orElse (frontVerdict s) (soundVerdict s)
 
 -- ---- 5: an event
 

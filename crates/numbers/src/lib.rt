@@ -1,11 +1,12 @@
-// The documents' numbers: of an outcome, with its message, and of a refusal, with its place; and the refusal of a
-// verdict. Document 01, "The eight events" and "Where a call is turned down".
+// The documents' numbers: of an outcome, with its message, of a refusal, with its place, and of a verdict likewise; and
+// the refusal of a verdict. Document 01, "The eight events" and "Where a call is turned down".
 use machine::Outcome;
 use machine::Refusal;
 use machine::Verdict;
 ghost use mathlib.Core.Path.{_≡_};
 ghost use Rattle.machine.specs.Run.{outcomeNumber, outcomeMessage};
 ghost use Rattle.machine.specs.Refusals.{numberOf, placeOf};
+ghost use Rattle.machine.specs.Survey.{verdictNumber, verdictPlace};
 ghost use Rattle.numbers.specs.Verdicts.{refusalOf};
 
 // Internal: an outcome's number, 0 to 5; of fill, take, sent and got it is the ledger's code.
@@ -82,5 +83,25 @@ pub fn refusal_of(verdict: Verdict) -> Refusal
     match verdict {
         Verdict::Fine => Refusal::Output,
         Verdict::Refused(refusal) => refusal,
+    }
+}
+
+// Internal: a verdict's number: that of its refusal, 0 where nothing is refused.
+pub fn verdict_number(verdict: Verdict) -> usize
+    ensures { λ r. ⌜ r ≡ verdictNumber verdict ⌝ }
+{
+    match verdict {
+        Verdict::Fine => 0,
+        Verdict::Refused(refusal) => number_of(refusal),
+    }
+}
+
+// Internal: its place, 0 where nothing is refused.
+pub fn verdict_place(verdict: Verdict) -> usize
+    ensures { λ r. ⌜ r ≡ verdictPlace verdict ⌝ }
+{
+    match verdict {
+        Verdict::Fine => 0,
+        Verdict::Refused(refusal) => place_of(refusal),
     }
 }

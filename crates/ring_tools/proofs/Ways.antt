@@ -3,7 +3,7 @@
 -- value that it is known to be.
 use Prim.Native.Nat.{ℕ, _≤_, _<_}
 use mathlib.Core.Path.{_≡_, sym, ap, _∙_}
-use mathlib.Core.List.{List, [], _∷_}
+use mathlib.Core.List.{List, [], _∷_, _++_}
 use lib.ListN.{length, replicate}
 use lib.Dec.{lit≤}
 use Rattle.machine.specs.declared.Refusal.{Refusal}
@@ -11,14 +11,19 @@ use Rattle.machine.specs.declared.Verdict.{Verdict}
 use Rattle.machine.specs.Bytes.{splice}
 use Rattle.machine.specs.Tape.{listOf, tapeOf}
 use Rattle.machine.specs.Refusals.{numberOf, placeOf, orElse, codes, sizeVerdict, listVerdict, tapeVerdict}
-use Rattle.machine.specs.Refusals.{outputVerdict, seedVerdict, countVerdict}
+use Rattle.machine.specs.Refusals.{outputVerdict, seedVerdict, countVerdict, frontVerdict}
 use Rattle.machine.specs.Answers.{Answer, answer, freshVerdict, freshAnswer, freshImage}
 use Rattle.machine.specs.Answers.{writeVerdict, writeAnswer, writeOutput, readVerdict, readAnswer, readOutput}
 use Rattle.machine.specs.Load.{loadTape, loadAnswer, loadOutput}
+use Rattle.machine.specs.Survey.{verdictNumber, verdictPlace, verdictValues, surveyAnswer}
 use Rattle.machine.specs.Host.{wordsOf, resultBytes}
 use Rattle.image.specs.declared.FreshAnswer.{FreshAnswer}
 use Rattle.image.specs.declared.FreshAnswer.the-variants as fresh-answer
 use Rattle.image.specs.Fresh as fresh
+use Rattle.sound.specs.declared.Findings.{Findings}
+use Rattle.sound.specs.declared.Surveyed.{Surveyed}
+use Rattle.sound.specs.declared.Surveyed.the-variants as surveyed
+use Rattle.sound.specs.Survey as survey
 use Rattle.tape.specs.declared.Filled.{Filled}
 use Rattle.tape.specs.declared.Filled.the-variants as filled-answer
 use Rattle.tape.specs.Filled as filled
@@ -27,6 +32,7 @@ use Rattle.load.proofs.Ways.{in-turn}
 use Rattle.numbers.specs.Verdicts.{refusalOf}
 use Rattle.numbers.proofs.Verdicts.{output-unmeasured}
 use Rattle.result_slice.proofs.Words.{told-in-ten}
+use Rattle.result_slice.proofs.Told.{Tells, done-told, refused-told, short-told}
 use Rattle.result_slice.proofs.Told.{Leaves, done-left, refused-left, short-left}
 
 -- ---- a short result slice
@@ -111,3 +117,31 @@ module _ (result : List ℕ) (room : 80 ≤ length result) (before : List ℕ) {
         → Leaves a result before done 0 t u
     filled-done bytes is wrote =
         done-left result room before left (bytes ∷ []) (sym (ap filled.inNumbers is) ∙ says) wrote
+
+-- ---- a survey, which is lent nothing to write but the result slice
+
+module _ (image result : List ℕ) where
+  pub survey-short : length result < 80 → {n : ℕ} {v : Verdict} → v ≡ frontVerdict image → n ≡ numberOf (refusalOf v)
+      → Tells (surveyAnswer image) result n result
+  unfolding surveyAnswer
+  survey-short short is number =
+      short-told result short (frontVerdict image) _ (number ∙ ap (λ v. numberOf (refusalOf v)) is)
+
+  module _ (room : 80 ≤ length result) {a : Surveyed} (says : survey.inNumbers a ≡ surveyAnswer image) where
+    pub survey-refused : {n : ℕ} {u : List ℕ} {q r : Refusal} → a ≡ surveyed.Refused q → r ≡ survey.refusalOf a
+        → n ≡ numberOf r
+        → u ≡ splice result 0 (resultBytes (placeOf r ∷ []))
+        → Tells (surveyAnswer image) result n u
+    survey-refused {r = r} is found number wrote =
+        refused-told result room r (rw (found ∙ ap survey.refusalOf is) (sym (ap survey.inNumbers is) ∙ says))
+        number wrote
+
+    pub survey-done : {number place : ℕ} {u : List ℕ} (f : Findings) → a ≡ surveyed.Done f
+        → number ≡ verdictNumber (f .verdict) → place ≡ verdictPlace (f .verdict)
+        → u ≡ splice result 0
+        (wordsOf (number ∷ place ∷ f .flags ∷ f .full ∷ f .empty ∷ replicate 5 0))
+        → Tells (surveyAnswer image) result 0 u
+    survey-done f is number place wrote =
+        let values = verdictValues (f .verdict) ++ (f .flags ∷ f .full ∷ f .empty ∷ []) in
+        done-told result room values (sym (ap survey.inNumbers is) ∙ says)
+        (told-in-ten result values (lit≤ tt) (rw (number, place) at wrote))

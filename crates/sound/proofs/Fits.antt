@@ -1,43 +1,34 @@
--- All records fit, one by one from the first on, just where the bytes of all are in range and all stages have the
--- envelope that they need.
+-- No record's bytes are out of range, one by one from the first on, just where those of all are in range; and then the
+-- first that isn't is none.
 use Prim.Native.Nat.{ℕ, zero, suc, _+_}
-use mathlib.Core.Path.{_≡_, refl, sym, ap, _∙_}
-use mathlib.Core.Bool.{Bool, true, false, _&&_}
+use mathlib.Core.Path.{_≡_, refl, ap, _∙_}
+use mathlib.Core.Bool.{Bool, true, false, cond, _&&_}
 use mathlib.Core.List.{List}
 use native.Mathlib.Omega.{arith}
-use native.Mathlib.Numerals.{add-one}
+use lib.Dec.{eqb}
+use borrow.Author.Tests.{eq-eqb, ne-eqb}
 use Rattle.machine.specs.Lists.{every, tabulate, all}
-use Rattle.machine.specs.Fields.{Status}
-use Rattle.machine.specs.Image.{processIn, processesIn}
-use Rattle.machine.specs.Sound.{holds, recordRulesIn, stageFits, recordsFit, stagesFit}
+use Rattle.machine.specs.Sound.{holds, recordRulesIn, recordsFit}
 use Rattle.machine.proofs.Laws.Lists.{tabulate-more, all-more}
-use Rattle.machine.proofs.Laws.Walk.{processes-more, records-more, stages-more}
-use Rattle.sound.specs.Walk.{recordFits, fitFrom}
+use Rattle.sound.specs.Walk.{holdFrom, firstBad}
 
-pub pairs : (a b c d : Bool) → (a && b) && (c && d) ≡ (a && c) && (b && d)
-pairs true true c d = refl
-pairs true false true d = refl
-pairs true false false d = refl
-pairs false b c d = refl
-
-pub fit-whole : (s : List ℕ) (status : Status) (n : ℕ)
-    → fitFrom s status 0 n ≡ recordsFit s n && stagesFit status (processesIn s n)
-unfolding tabulate all processesIn recordsFit every stagesFit
-fit-whole s status zero = refl
-fit-whole s status (suc n) =
-    let fits = recordFits s status in
+pub hold-whole : (s : List ℕ) (n : ℕ) → holdFrom s 0 n ≡ recordsFit s n
+unfolding tabulate all recordsFit every
+hold-whole s zero = refl
+hold-whole s (suc n) =
+    let rules : ℕ → Bool = λ j. holds (recordRulesIn s j) in
     let here : 0 + n ≡ n = omega arith in
-    let more : recordsFit s (suc n) ≡ recordsFit s n && holds (recordRulesIn s n) =
-    ap (recordsFit s) (sym (add-one n)) ∙ records-more s n in
-    let one-more : stagesFit status (processesIn s (suc n))
-    ≡ stagesFit status (processesIn s n) && stageFits status (processIn s n .have) (processIn s n .stage) =
-    ap (λ k. stagesFit status (processesIn s k)) (sym (add-one n))
-    ∙ ap (stagesFit status) (processes-more s n)
-    ∙ stages-more status (processesIn s n) (processIn s n) in
-    ap (all (λ b. b)) (tabulate-more fits 0 n)
-    ∙ all-more (λ b. b) (tabulate fits 0 n) (fits (0 + n))
-    ∙ ap (λ k. all (λ b. b) (tabulate fits 0 n) && fits k) here
-    ∙ ap (λ b. b && fits n) (fit-whole s status n)
-    ∙ pairs (recordsFit s n) (stagesFit status (processesIn s n)) (holds (recordRulesIn s n))
-    (stageFits status (processIn s n .have) (processIn s n .stage))
-    ∙ rw (more, one-more)
+    ap (all (λ b. b)) (tabulate-more rules 0 n)
+    ∙ all-more (λ b. b) (tabulate rules 0 n) (rules (0 + n))
+    ∙ ap (λ k. all (λ b. b) (tabulate rules 0 n) && rules k) here
+    ∙ ap (λ b. b && rules n) (hold-whole s n)
+
+pub bad-none : (s : List ℕ) (i k : ℕ) → eqb (firstBad s i k) (i + k) ≡ holdFrom s i k
+unfolding firstBad tabulate all
+bad-none s i zero = eq-eqb i (i + 0) (omega arith)
+bad-none s i (suc k) = go (holds (recordRulesIn s i)) (bad-none s (i + 1) k)
+  where
+    go : (b : Bool) → eqb (firstBad s (i + 1) k) (i + 1 + k) ≡ holdFrom s (i + 1) k
+        → eqb (cond b (firstBad s (i + 1) k) i) (i + suc k) ≡ b && holdFrom s (i + 1) k
+    go true rest = let same : i + suc k ≡ i + 1 + k = omega arith in rw same rest
+    go false rest = ne-eqb i (i + suc k) (λ e. omega arith)

@@ -1,271 +1,312 @@
--- What a record's mask leaves of it: the have and arriving flags where the record fits, and something wrong where it
--- doesn't. A mask and a record are taken apart into four bytes and the note.
+-- What a record's mask leaves of it: of its own bytes nothing where they are in range, and something where they aren't;
+-- and where they are, none of the bits turned over just where its stage has the envelope that it needs. A mask and a
+-- record are taken apart into four bytes and the note.
 use Prim.Native.Nat.{ℕ, _+_, _*_, _/_, _%_, _^_, _≤_, _<_}
-use mathlib.Core.Path.{_≡_, refl, sym, _∙_}
+use mathlib.Core.Path.{_≡_, refl, sym, ap, _∙_}
 use mathlib.Core.Bool.{Bool, true, false, true≢false, not, cond, _&&_, _||_}
 use native.Mathlib.Omega.{arith}
 use lib.Dec.{eqb, leb}
-use lib.Bits.{bitAnd}
-use borrow.Author.Tests.{eqb-true, leb-true, eq-eqb, le-leb}
+use lib.Bits.{bitAnd, bitXor, and-comm, and-lt, and-mod, and-zero-r, xor-lt, xor-zero-r}
+use borrow.Author.Tests.{eqb-true, eqb-false, leb-true, le-leb, eq-eqb, ne-eqb}
 use Rattle.machine.specs.Bytes.{bit, bitOf}
 use Rattle.machine.specs.Fields.{Status, full, empty}
 use Rattle.machine.specs.Image.{processFrom}
-use Rattle.machine.specs.Stages.{noted, markable}
+use Rattle.machine.specs.Stages.{noted, markable, withEmpty, withFull}
 use Rattle.machine.specs.Sound.{holds, recordRules, stageFits}
-use Rattle.machine.proofs.Laws.Bits.{bit-le, bit-off, bit-is, is-bit}
-use Rattle.machine.proofs.Laws.Lists.{and-first, and-second, and-both}
-use Rattle.sound.specs.Demands.{lawful, markMask, fromParts, lawfulMask, entryOf, unlawfulMask, demandOf}
-use Rattle.sound.specs.Walk.{leftOf, wrongIn}
-use Rattle.sound.proofs.Masks.{two-parts, mask-flags, mask-marks, mask-byte, mask-note, mask-stage}
-
--- ---- tests and bits
+use Rattle.machine.proofs.Laws.Bits.{bit-le, bit-is}
+use Rattle.sound.specs.Demands.{against, stageMask, flagMask, markMask, noteMask, fromParts, maskOf, entryOf}
+use Rattle.sound.specs.Demands.{beyondMask, demandOf}
+use Rattle.sound.specs.Walk as walk
+use Rattle.sound.specs.Walk.{leftOf, ownIn}
+use Rattle.sound.proofs.Masks.{two-parts, two-turned, byteMask, stage-in-range, stage-stands, flags-in-range}
+use Rattle.sound.proofs.Masks.{have-there, have-bit, arriving-bit, full-bit, empty-bit, marks-fit, mask-byte}
+use Rattle.sound.proofs.Masks.{mask-note}
 
 by-test : {P : Type 0} (b : Bool) → (b ≡ true → P) → (b ≡ false → P) → P
 by-test true f g = f refl
 by-test false f g = g refl
 
--- a mark that may not stand, and doesn't
-unmarked : (may marked : Bool) → not may && marked ≡ false → not marked || may ≡ true
-unmarked true true e = refl
-unmarked true false e = refl
-unmarked false true e = sym e
-unmarked false false e = refl
+-- ---- tests
 
-marked : (may marked : Bool) → not marked || may ≡ true → not may && marked ≡ false
-marked true m e = refl
-marked false true e = sym e
-marked false false e = refl
+-- as the rules group them
+regrouped : (z a b c d e : Bool) → z && a && (b && c) && d && e ≡ z && a && b && c && d && e
+regrouped true true b c d e = refl
+regrouped true false b c d e = refl
+regrouped false a b c d e = refl
 
-noted-free : (free : Bool) (note : ℕ) → cond free 0 note ≡ 0 → free || eqb note 0 ≡ true
-noted-free true note e = refl
-noted-free false note e = eq-eqb note 0 e
+-- a stage that needs the envelope of one status, or of the other
+needs-envelope : (status withEmpty withFull have : Bool)
+    → not (cond status withEmpty withFull) && (not (withEmpty || withFull) || have) && true && true && true
+    ≡ (not withEmpty || have && not status) && (not withFull || have && status)
+needs-envelope true true f true = refl
+needs-envelope true true f false = refl
+needs-envelope true false true true = refl
+needs-envelope true false true false = refl
+needs-envelope true false false h = refl
+needs-envelope false true true true = refl
+needs-envelope false true true false = refl
+needs-envelope false false true true = refl
+needs-envelope false false true false = refl
+needs-envelope false true false true = refl
+needs-envelope false true false false = refl
+needs-envelope false false false h = refl
 
-free-noted : (free : Bool) (note : ℕ) → free || eqb note 0 ≡ true → cond free 0 note ≡ 0
-free-noted true note e = refl
-free-noted false note e = eqb-true note 0 e
+-- ---- words in five parts
 
--- what is left of byte 1 where it has bits 0 to 2 alone
-flags-left : (stage flags : ℕ) → stage < 16 → flags ≤ 7
-    → fromParts (16 * (stage / 16)) (flags % 4 + 8 * (flags / 8)) 0 0 0
-    ≡ 256 * bit (bitOf flags 0) + 512 * bit (bitOf flags 1)
-flags-left stage flags short few =
-    let none : stage / 16 ≡ 0 = omega arith in
-    let upper : flags / 8 ≡ 0 = omega arith in
-    let lower : flags % 4 ≡ flags / 1 % 2 + 2 * (flags / 2 % 2) = omega arith in
-    rw (
-      is-bit (flags / 1 % 2) (omega arith),
-      is-bit (flags / 2 % 2) (omega arith),
-      none,
-      upper,
-      lower,
+-- a word of parts has none just where no part has one
+parts-none : (a b c d e : ℕ)
+    → eqb (fromParts a b c d e) 0 ≡ eqb a 0 && eqb b 0 && eqb c 0 && eqb d 0 && eqb e 0
+parts-none a b c d e =
+    by-test (eqb a 0)
+    (λ p.
+    by-test (eqb b 0)
+    (λ q.
+    by-test (eqb c 0)
+    (λ r.
+    by-test (eqb d 0)
+    (λ t.
+    by-test (eqb e 0)
+    (λ u.
+    let none : fromParts a b c d e ≡ 0 =
+    omega (arith, eqb-true a 0 p, eqb-true b 0 q, eqb-true c 0 r, eqb-true d 0 t, eqb-true e 0 u) in
+    eq-eqb (fromParts a b c d e) 0 none ∙ rw (p, q, r, t, u))
+    (λ u. some (eqb-false e 0 u) (λ z. omega arith) ∙ rw (p, q, r, t, u)))
+    (λ t. some (eqb-false d 0 t) (λ z. omega arith) ∙ rw (p, q, r, t)))
+    (λ r. some (eqb-false c 0 r) (λ z. omega arith) ∙ rw (p, q, r)))
+    (λ q. some (eqb-false b 0 q) (λ z. omega arith) ∙ rw (p, q)))
+    (λ p. some (eqb-false a 0 p) (λ z. omega arith) ∙ rw p)
+  where
+    some : {x : ℕ} → (x ≡ 0 → ⊥) → (fromParts a b c d e ≡ 0 → x ≡ 0) → eqb (fromParts a b c d e) 0 ≡ false
+    some ne of = ne-eqb (fromParts a b c d e) 0 (λ z. ne (of z))
+
+-- part by part
+and-parts : (a b c d e a′ b′ c′ d′ e′ : ℕ) → a < 256 → b < 256 → c < 256 → d < 256 → a′ < 256 → b′ < 256 → c′ < 256
+    → d′ < 256
+    → bitAnd (fromParts a b c d e) (fromParts a′ b′ c′ d′ e′)
+    ≡ fromParts (bitAnd a a′) (bitAnd b b′) (bitAnd c c′) (bitAnd d d′) (bitAnd e e′)
+and-parts a b c d e a′ b′ c′ d′ e′ la lb lc ld la′ lb′ lc′ ld′ =
+    two-parts a a′ (b + 256 * (c + 256 * (d + 256 * e))) (b′ + 256 * (c′ + 256 * (d′ + 256 * e′))) la la′
+    ∙ rw (
+      two-parts b b′ (c + 256 * (d + 256 * e)) (c′ + 256 * (d′ + 256 * e′)) lb lb′,
+      two-parts c c′ (d + 256 * e) (d′ + 256 * e′) lc lc′,
+      two-parts d d′ e e′ ld ld′,
     )
-    (omega arith)
-
--- parts of which all but bits 0 and 1 of the second are 0
-record NoneWrong (a b c d note : ℕ) : Type 0 where
-  first : a ≡ 0
-  second : b < 4
-  third : c ≡ 0
-  fourth : d ≡ 0
-  rest : note ≡ 0
-
-none-wrong : (a b c d note : ℕ) → a < 256 → b < 256 → wrongIn (fromParts a b c d note) ≡ 0 → NoneWrong a b c d note
-none-wrong a b c d note small little e =
-    let x = b + 256 * (c + 256 * (d + 256 * note)) in
-    let high : (a + 256 * x) / 1024 ≡ 0 = omega arith in
-    let low : (a + 256 * x) % 256 ≡ 0 = omega arith in
-    record {
-      first = omega arith;
-      second = omega arith;
-      third = omega arith;
-      fourth = omega arith;
-      rest = omega arith;
-    }
-
--- ---- an entry taken apart
-
-module _ (b f stage : ℕ) (b-le : b ≤ 1) (f-lt : f < 2) (short : stage < 16) where
-  entry-status : (32 * b + 16 * f + stage) / 32 ≡ b
-  entry-status = omega arith
-
-  entry-have : (32 * b + 16 * f + stage) / 16 % 2 ≡ f
-  entry-have =
-      let half : (32 * b + 16 * f + stage) / 16 ≡ 2 * b + f = omega arith in
-      rw half (omega arith)
-
-  entry-stage : (32 * b + 16 * f + stage) % 16 ≡ stage
-  entry-stage = omega arith
 
 -- ---- a record
 
-module _ (status : Status) (stage flags requests third note : ℕ) (s-lt : stage < 256) (f-lt : flags < 256)
-    (r-lt : requests < 256) (t-lt : third < 256) (n-lt : note < 2 ^ 32) where
+module _ (stage flags requests third note : ℕ) (s-lt : stage < 256) (f-lt : flags < 256) (r-lt : requests < 256)
+    (t-lt : third < 256) where
   abbrev word : ℕ
   word = fromParts stage flags requests third note
 
-  abbrev entry : ℕ
-  entry = entryOf (bit status) word
+  -- have with mark full, and arriving with mark empty
+  pub word-full : walk.withFull word ≡ 256 * bit (bitOf flags 0) + 1048576 * bit (bitOf requests 4)
+  word-full =
+      and-parts stage flags requests third note 0 1 16 0 0 s-lt f-lt r-lt t-lt (omega arith) (omega arith)
+      (omega arith) (omega arith)
+      ∙ rw (
+        and-zero-r stage,
+        have-bit flags f-lt,
+        full-bit requests r-lt,
+        and-zero-r third,
+        and-zero-r note,
+      )
+      (omega arith)
 
-  abbrev have : Bool
-  have = bitOf flags 0
+  pub word-empty : walk.withEmpty word ≡ 512 * bit (bitOf flags 1) + 2097152 * bit (bitOf requests 5)
+  word-empty =
+      and-parts stage flags requests third note 0 2 32 0 0 s-lt f-lt r-lt t-lt (omega arith) (omega arith)
+      (omega arith) (omega arith)
+      ∙ rw (
+        and-zero-r stage,
+        arriving-bit flags f-lt,
+        empty-bit requests r-lt,
+        and-zero-r third,
+        and-zero-r note,
+      )
+      (omega arith)
 
-  -- the marks that may not stand at a stage, and do
-  abbrev wrongMarks : ℕ → ℕ
-  wrongMarks e =
-      16 * bit (not (markable full e) && bitOf requests 4) + 32 * bit (not (markable empty e) && bitOf requests 5)
-
-  -- what the mask of a stage e leaves
-  abbrev leftAt : ℕ → ℕ
-  leftAt e =
-      fromParts (16 * (stage / 16)) (flags % 4 + 8 * (flags / 8)) (wrongMarks e) third (cond (noted e) 0 note)
-
-  lawful-left : (e : ℕ) → bitAnd (lawfulMask e) word ≡ leftAt e
-  lawful-left e =
-      let ml = bit-le (not (markable full e)) in
-      let ml′ = bit-le (not (markable empty e)) in
-      rw (
-        two-parts 240 stage _ _ (omega arith) s-lt,
-        two-parts 251 flags _ _ (omega arith) f-lt,
-        two-parts (markMask e) requests _ _ (omega arith) r-lt,
-        two-parts 255 third _ _ (omega arith) t-lt,
-        mask-stage stage s-lt,
-        mask-flags flags f-lt,
-        mask-marks (not (markable full e)) (not (markable empty e)) requests r-lt,
-        mask-byte third t-lt,
-        mask-note (noted e) note n-lt,
+  -- the bits turned over are of the two lowest bytes
+  turned : bitXor word 263 ≡ fromParts (bitXor stage 7) (bitXor flags 1) requests third note
+  turned =
+      two-turned stage 7 (flags + 256 * (requests + 256 * (third + 256 * note))) 1 s-lt (omega arith)
+      ∙ rw (
+        two-turned flags 1 (requests + 256 * (third + 256 * note)) 0 f-lt (omega arith),
+        xor-zero-r (requests + 256 * (third + 256 * note)),
       )
 
-  unlawful-left : bitAnd (unlawfulMask entry) word % 256 ≡ stage
-  unlawful-left =
-      rw (two-parts 255 stage _ _ (omega arith) s-lt, mask-byte stage s-lt) (omega arith)
+  turned-stage : bitXor stage 7 < 256
+  turned-stage = xor-lt 8 stage 7 s-lt (omega arith)
 
-  -- ---- the entry of a stage of four bits
+  turned-flags : bitXor flags 1 < 256
+  turned-flags = xor-lt 8 flags 1 f-lt (omega arith)
 
-  module _ (short : stage < 16) where
-    low : word % 512 ≡ stage + 256 * (flags % 2)
-    low = omega arith
+  module _ (status : Status) (n-lt : note < 2 ^ 32) where
+    abbrev low : ℕ
+    low = stage % 16
 
-    entry-is : entry ≡ 32 * bit status + 16 * (flags % 2) + stage
-    entry-is =
-        let f = flags % 2 in
-        let sixteenth : (stage + 256 * f) / 16 ≡ 16 * f = omega arith in
-        let rest : (stage + 256 * f + 16 * f) % 32 ≡ 16 * f + stage = omega arith in
-        rw (low, sixteenth, rest) (omega arith)
+    abbrev left : ℕ
+    left = leftOf (bit status) word
 
-    law-is : lawful (eqb (entry / 32) 1) (eqb (entry / 16 % 2) 1) (entry % 16) ≡ lawful status have stage
-    law-is =
-        let b = bit-le status in
-        let f : flags % 2 < 2 = omega arith in
-        let same : flags % 2 ≡ flags / 1 % 2 = omega arith in
-        rw (
-          entry-is,
-          entry-status (bit status) (flags % 2) stage b f short,
-          entry-have (bit status) (flags % 2) stage b f short,
-          entry-stage (bit status) (flags % 2) stage b f short,
-          bit-is status (bit status) refl,
-          same,
-        )
+    abbrev have : Bool
+    have = bitOf flags 0
 
-    stage-is : entry % 16 ≡ stage
-    stage-is =
-        let f : flags % 2 < 2 = omega arith in
-        rw (entry-is, entry-stage (bit status) (flags % 2) stage (bit-le status) f short)
+    note-whole : (free : Bool) → bitAnd (cond free 0 note) 4294967295 ≡ cond free 0 note
+    note-whole true = refl
+    note-whole false = and-comm note 4294967295 ∙ mask-note false note n-lt
 
-  -- ---- a record that fits, and one that doesn't
+    note-fits : (free : Bool) → eqb (cond free 0 note) 0 ≡ free || eqb note 0
+    note-fits true = refl
+    note-fits false = refl
 
-  abbrev fits : Bool
-  fits = holds (recordRules flags third (processFrom stage flags requests note)) && stageFits status have stage
+    -- ---- the mask
 
-  abbrev left : ℕ
-  left = leftOf (bit status) word
+    low-is : word % 16 ≡ low
+    low-is = omega arith
 
-  -- under a lawful entry
-  lawful-mask : lawful (eqb (entry / 32) 1) (eqb (entry / 16 % 2) 1) (entry % 16) ≡ true
-      → left ≡ leftAt (entry % 16)
-  unfolding demandOf
-  lawful-mask law = rw law (lawful-left (entry % 16))
+    demand-is : demandOf (entryOf (bit status) word)
+        ≡ cond (leb low 10) (maskOf status low) (beyondMask (16 * bit status + low))
+    unfolding demandOf
+    demand-is =
+        let two = bit-le status in
+        let four : low < 16 = omega arith in
+        let part : (16 * bit status + low) / 16 ≡ bit status = omega arith in
+        let rest : (16 * bit status + low) % 16 ≡ low = omega arith in
+        rw (low-is, part, rest, bit-is status (bit status) refl)
 
-  -- under another
-  unlawful-mask : lawful (eqb (entry / 32) 1) (eqb (entry / 16 % 2) 1) (entry % 16) ≡ false → left % 256 ≡ stage
-  unfolding demandOf
-  unlawful-mask law = rw law unlawful-left
+    -- its lowest byte
+    demand-byte : demandOf (entryOf (bit status) word) % 256 ≡ byteMask status low
+    demand-byte =
+        by-test (leb low 10)
+        (λ t.
+        let one = bit-le (against status low) in
+        let byte : stageMask status low < 256 = omega arith in
+        ap (λ (x : ℕ). x % 256) demand-is ∙ rw t (omega arith))
+        (λ t.
+        let one = bit-le (eqb (16 * bit status + low) 31) in
+        ap (λ (x : ℕ). x % 256) demand-is ∙ rw t (omega arith))
 
-  pub kept : fits ≡ true → left ≡ 256 * bit (bitOf flags 0) + 512 * bit (bitOf flags 1)
-  kept ok =
-      let a = leb stage 10 in
-      let b = leb flags 7 in
-      let c = not (bitOf requests 4) || markable full stage in
-      let d = not (bitOf requests 5) || markable empty stage in
-      let e = eqb third 0 in
-      let f = noted stage || eqb note 0 in
-      let st = stageFits status have stage in
-      let to-f = and-first (a && b && c && d && e && f) st ok in
-      let to-e = and-first (a && b && c && d && e) f to-f in
-      let to-d = and-first (a && b && c && d) e to-e in
-      let to-c = and-first (a && b && c) d to-d in
-      let to-b = and-first (a && b) c to-c in
-      let small = leb-true stage 10 (and-first a b to-b) in
-      let short : stage < 16 = omega arith in
-      let few = leb-true flags 7 (and-second a b to-b) in
-      let no-full = marked (markable full stage) (bitOf requests 4) (and-second (a && b) c to-c) in
-      let no-empty = marked (markable empty stage) (bitOf requests 5) (and-second (a && b && c) d to-d) in
-      let zero = eqb-true third 0 (and-second (a && b && c && d) e to-e) in
-      let no-note = free-noted (noted stage) note (and-second (a && b && c && d && e) f to-f) in
-      let here = stage-is short in
-      let law : lawful status have stage ≡ true =
-      and-both a st (and-first a b to-b) (and-second (a && b && c && d && e && f) st ok) in
-      lawful-mask (law-is short ∙ law) ∙ rw (here, no-full, no-empty, zero, no-note) (flags-left stage flags short few)
+    -- what is left of byte 0
+    left-byte : left % 256 ≡ bitAnd (byteMask status low) (bitXor stage 7)
+    left-byte =
+        let byte : fromParts (bitXor stage 7) (bitXor flags 1) requests third note % 256 ≡ bitXor stage 7 =
+        omega (arith, turned-stage) in
+        and-mod (demandOf (entryOf (bit status) word)) (bitXor word 263) 8 ∙ rw (demand-byte, turned, byte)
 
-  rules-hold : stage < 16 → flags ≤ 7
-      → lawful (eqb (entry / 32) 1) (eqb (entry / 16 % 2) 1) (entry % 16) ≡ true → wrongMarks (entry % 16) ≡ 0
-      → third ≡ 0 → cond (noted (entry % 16)) 0 note ≡ 0 → fits ≡ true
-  rules-hold short few law marks zero no-note =
-      let here = stage-is short in
-      let a = leb stage 10 in
-      let b = leb flags 7 in
-      let c = not (bitOf requests 4) || markable full stage in
-      let d = not (bitOf requests 5) || markable empty stage in
-      let e = eqb third 0 in
-      let f = noted stage || eqb note 0 in
-      let st = stageFits status have stage in
-      let legal : lawful status have stage ≡ true = sym (law-is short) ∙ law in
-      let same : wrongMarks stage ≡ 0 = rw here at marks in
-      let wrong-full = bit-off (not (markable full stage) && bitOf requests 4) (omega arith) in
-      let wrong-empty = bit-off (not (markable empty stage) && bitOf requests 5) (omega arith) in
-      let free : cond (noted stage) 0 note ≡ 0 = rw here at no-note in
-      and-both (a && b && c && d && e && f) st
-      (and-both (a && b && c && d && e) f
-      (and-both (a && b && c && d) e
-      (and-both (a && b && c) d
-      (and-both (a && b) c
-      (and-both a b (and-first a st legal) (le-leb flags 7 few))
-      (unmarked (markable full stage) (bitOf requests 4) wrong-full))
-      (unmarked (markable empty stage) (bitOf requests 5) wrong-empty))
-      (eq-eqb third 0 zero))
-      (noted-free (noted stage) note free))
-      (and-second a st legal)
+    -- ---- a stage up to 10
 
-  -- under a lawful entry nothing wrong is left of a record that fits alone
-  lawful-clean : lawful (eqb (entry / 32) 1) (eqb (entry / 16 % 2) 1) (entry % 16) ≡ true → wrongIn left ≡ 0
-      → fits ≡ true
-  lawful-clean law none =
-      let here = lawful-mask law in
-      let upper : 16 * (stage / 16) < 256 = omega arith in
-      let byte : flags % 4 + 8 * (flags / 8) < 256 = omega arith in
-      let e = entry % 16 in
-      let all = none-wrong (16 * (stage / 16)) (flags % 4 + 8 * (flags / 8)) (wrongMarks e) third
-      (cond (noted e) 0 note) upper byte (rw here at none) in
-      rules-hold (omega (arith, all .first)) (omega (arith, all .second)) law (all .third) (all .fourth) (all .rest)
+    module _ (in-range : stage ≤ 10) where
+      itself : low ≡ stage
+      itself = omega arith
 
-  -- and under another something is: a stage that isn't 0
-  unlawful-wrong : lawful (eqb (entry / 32) 1) (eqb (entry / 16 % 2) 1) (entry % 16) ≡ false → wrongIn left ≡ 0 → ⊥
-  unlawful-wrong law none =
-      let zero : stage ≡ 0 = omega (arith, unlawful-mask law) in
-      let short : stage < 16 = omega arith in
-      let here : entry % 16 ≡ 0 = stage-is short ∙ zero in
-      true≢false (rw here at law)
+      there : leb stage 10 ≡ true
+      there = le-leb stage 10 in-range
 
-  pub clean : wrongIn left ≡ 0 → fits ≡ true
-  clean none =
-      by-test (lawful (eqb (entry / 32) 1) (eqb (entry / 16 % 2) 1) (entry % 16)) (λ law. lawful-clean law none)
-      (λ law. absurd (unlawful-wrong law none))
+      -- the bytes of what is left, and the note
+      abbrev l0 : ℕ
+      l0 = bitAnd (stageMask status stage) (bitXor stage 7)
+
+      abbrev l1 : ℕ
+      l1 = bitAnd (flagMask stage) (bitXor flags 1)
+
+      abbrev l2 : ℕ
+      l2 = bitAnd (markMask stage) requests
+
+      abbrev l4 : ℕ
+      l4 = cond (noted stage) 0 note
+
+      -- what is left, part by part
+      left-is : left
+          ≡ fromParts l0 l1 l2 third l4
+      left-is =
+          let one = bit-le (against status stage) in
+          let two = bit-le (withEmpty stage || withFull stage) in
+          let three = bit-le (not (markable full stage)) in
+          let four = bit-le (not (markable empty stage)) in
+          let mask : demandOf (entryOf (bit status) word) ≡ maskOf status stage = demand-is ∙ rw (itself, there) in
+          rw (mask, turned)
+          (and-parts (stageMask status stage) (flagMask stage) (markMask stage) 255 (noteMask stage)
+          (bitXor stage 7) (bitXor flags 1) requests third note (omega arith) (omega arith) (omega arith) (omega arith)
+          turned-stage turned-flags r-lt t-lt
+          ∙ rw (mask-byte third t-lt, mask-note (noted stage) note n-lt))
+
+      l0-lt : l0 < 256
+      l0-lt =
+          let one = bit-le (against status stage) in
+          and-lt 8 (stageMask status stage) (bitXor stage 7) (omega arith) turned-stage
+
+      l1-lt : l1 < 256
+      l1-lt =
+          let one = bit-le (withEmpty stage || withFull stage) in
+          and-lt 8 (flagMask stage) (bitXor flags 1) (omega arith) turned-flags
+
+      l2-lt : l2 < 256
+      l2-lt =
+          let one = bit-le (not (markable full stage)) in
+          let two = bit-le (not (markable empty stage)) in
+          and-lt 8 (markMask stage) requests (omega arith) r-lt
+
+      -- its own bytes leave nothing just where they are in range
+      own-left : eqb (ownIn left) 0 ≡ holds (recordRules flags third (processFrom stage flags requests note))
+      own-left =
+          let here : byteMask status low ≡ stageMask status stage = rw (itself, there) in
+          let stage-fits : eqb (bitAnd l0 248) 0 ≡ leb stage 10 = rw here at (stage-in-range status stage s-lt) in
+          rw left-is
+          (ap (λ (x : ℕ). eqb x 0)
+          (and-parts l0 l1 l2 third l4 248 254 255 255 4294967295 l0-lt l1-lt l2-lt t-lt (omega arith) (omega arith)
+          (omega arith) (omega arith))
+          ∙ rw (
+            and-comm l2 255,
+            mask-byte l2 l2-lt,
+            and-comm third 255,
+            mask-byte third t-lt,
+            note-whole (noted stage),
+            parts-none (bitAnd l0 248) (bitAnd l1 254) l2 third l4,
+            stage-fits,
+            flags-in-range (withEmpty stage || withFull stage) flags f-lt,
+            marks-fit (markable full stage) (markable empty stage) requests r-lt,
+            note-fits (noted stage),
+          )
+          (regrouped (leb stage 10) (leb flags 7) (not (bitOf requests 4) || markable full stage)
+          (not (bitOf requests 5) || markable empty stage) (eqb third 0) (noted stage || eqb note 0)))
+
+      -- and none of the bits turned over is left just where the stage has the envelope that it needs
+      turned-left : eqb (bitAnd left 263) 0 ≡ stageFits status have stage
+      turned-left =
+          rw left-is
+          (ap (λ (x : ℕ). eqb x 0)
+          (and-parts l0 l1 l2 third l4 7 1 0 0 0 l0-lt l1-lt l2-lt t-lt (omega arith) (omega arith) (omega arith)
+          (omega arith))
+          ∙ rw (
+            and-zero-r l2,
+            and-zero-r third,
+            and-zero-r l4,
+            parts-none (bitAnd l0 7) (bitAnd l1 1) 0 0 0,
+            stage-stands status stage in-range,
+            have-there (withEmpty stage || withFull stage) flags f-lt,
+          )
+          (needs-envelope status (withEmpty stage) (withFull stage) have))
+
+    -- ---- for every stage
+
+    -- a stage above 10 is left itself
+    beyond-left : leb stage 10 ≡ false → eqb (ownIn left) 0 ≡ false
+    beyond-left beyond =
+        ne-eqb (ownIn left) 0
+        (λ none.
+        let byte : ownIn left % 256 ≡ bitAnd (bitAnd (byteMask status low) (bitXor stage 7)) 248 =
+        and-mod left 18446744073709551352 8 ∙ rw left-byte in
+        let zero : bitAnd (bitAnd (byteMask status low) (bitXor stage 7)) 248 ≡ 0 = omega (arith, none, byte) in
+        true≢false (sym (eq-eqb _ 0 zero) ∙ stage-in-range status stage s-lt ∙ beyond))
+
+    -- whether the record's bytes are in range
+    abbrev in-range : Bool
+    in-range = holds (recordRules flags third (processFrom stage flags requests note))
+
+    pub record-left : eqb (ownIn left) 0 ≡ in-range
+    record-left = by-test (leb stage 10) (λ t. own-left (leb-true stage 10 t)) (λ t. beyond-left t ∙ rw t)
+
+    pub stage-left : in-range ≡ true → eqb (bitAnd left 263) 0 ≡ stageFits status have stage
+    stage-left ok =
+        by-test (leb stage 10) (λ t. turned-left (leb-true stage 10 t))
+        (λ t. let none : false ≡ true = rw t at ok in absurd (true≢false (sym none)))

@@ -1,4 +1,4 @@
--- The table of masks, arm by arm, and the entries that no arm names: a test that the checker computes at all 64.
+-- The table of masks, arm by arm, and the entries that no arm names: a test that the checker computes at all 32.
 use Prim.Native.Nat.{ℕ, _<_}
 use mathlib.Core.Path.{_≡_, refl, sym}
 use mathlib.Core.Bool.{Bool, true, false, _||_}
@@ -31,19 +31,17 @@ none-among (k ∷ ks) entry none = rw (ne-eqb entry k (none .1), none-among ks e
 
 -- the entries that the table has, the last first
 abbrev named : List ℕ
-named =
-    63 ∷ 56 ∷ 55 ∷ 54 ∷ 53 ∷ 52 ∷ 50 ∷ 49 ∷ 48 ∷ 39 ∷ 38 ∷ 34 ∷ 33 ∷ 32 ∷ 26 ∷ 25 ∷ 23 ∷ 22 ∷ 19 ∷ 18 ∷ 17 ∷ 16 ∷ 7 ∷ 6
-    ∷ 2 ∷ 1 ∷ 0 ∷ []
+named = 31 ∷ 26 ∷ 25 ∷ 24 ∷ 23 ∷ 22 ∷ 21 ∷ 20 ∷ 19 ∷ 18 ∷ 17 ∷ 16 ∷ 10 ∷ 9 ∷ 8 ∷ 7 ∷ 6 ∷ 5 ∷ 4 ∷ 3 ∷ 2 ∷ 1 ∷ 0 ∷ []
 
-named-or-255 : ℕ → Bool
-named-or-255 entry = among named entry || eqb (demandOf entry) 255
+named-or-248 : ℕ → Bool
+named-or-248 entry = among named entry || eqb (demandOf entry) 248
 
-all-tested : every 64 named-or-255 ≡ true
-unfolding every named-or-255 demandOf
+all-tested : every 32 named-or-248 ≡ true
+unfolding every named-or-248 demandOf
 all-tested = refl
 
-pub rest-is : (entry : ℕ) → entry < 64 → NoneOf named entry → 255 ≡ demandOf entry
-unfolding named-or-255
+pub rest-is : (entry : ℕ) → entry < 32 → NoneOf named entry → 248 ≡ demandOf entry
+unfolding named-or-248
 rest-is entry below none =
-    sym (eqb-true (demandOf entry) 255
-    (rw (none-among named entry none) at (every-at 64 named-or-255 all-tested entry below)))
+    sym (eqb-true (demandOf entry) 248
+    (rw (none-among named entry none) at (every-at 32 named-or-248 all-tested entry below)))

@@ -1,32 +1,44 @@
 -- The walk over the records, step by step: at first it holds what the rules say of no record, and after each step what
 -- they say of one record more.
 use Prim.Native.Nat.{ℕ, zero, suc, _+_, _-_, _*_, _/_, _%_, _^_, _≤_, _<_}
-use mathlib.Core.Path.{_≡_, refl, sym, _∙_}
-use mathlib.Core.Bool.{Bool, true, false, _||_}
-use mathlib.Core.List.{List}
+use mathlib.Core.Path.{_≡_, refl, _∙_}
+use mathlib.Core.Bool.{true, cond, and-comm}
+use mathlib.Core.List.{List, [], _∷_}
+use mathlib.Core.Logic.{_⊎_, inl, inr}
 use native.Mathlib.Omega.{arith}
-use native.Mathlib.Nat.{le-trans, mod-eq-of-lt}
-use lib.ListN.{getD}
-use lib.Dec.{eqb, ltb}
-use borrow.Author.Tests.{lt-ltb}
-use lib.Bits.{bitOr, or-mod, or-shr, or-add-and, and-le-l, and-le-r}
-use lib.Pow.{shr-shr, pow-mono}
+use native.Mathlib.Nat.{le-trans}
+use lib.ListN.{length, getD}
+use lib.Dec.{eqb, lit≤}
+use lib.Bits.{bitAnd, bitOr, or-add-and, and-le-l, and-le-r}
+use lib.Pow.{pow-mono}
 use lib.Count.{ones}
-use Rattle.machine.specs.Bytes.{Bytes, bit, bitOf, number}
+use borrow.Author.Tests.{eq-eqb, ne-eqb}
+use Rattle.machine.specs.declared.Process.{Process}
+use Rattle.machine.specs.Bytes.{Bytes, bit, number}
 use Rattle.machine.specs.Lists.{tabulate, all, sum}
 use Rattle.machine.specs.Fields.{Status, full, empty, for}
 use Rattle.machine.specs.Image.{processIn}
-use Rattle.machine.specs.Sound.{places, markedSet}
+use Rattle.machine.specs.Sound.{holds, recordRules, recordRulesIn, stageFits, stagesFit, places, markedSet}
 use Rattle.machine.proofs.Laws.Bits.{bit-le, is-bit}
 use Rattle.machine.proofs.Laws.Bytes.{number-4, number-8, number-lt}
 use Rattle.machine.proofs.Laws.Lists.{and-first, and-second, length-tabulate}
 use Rattle.machine.proofs.Laws.Walk.{places-le, marked-lt}
-use Rattle.sound.specs.declared.Walk.{Walk}
+use Rattle.sound.specs.declared.walk.Walk.{Walk}
 use Rattle.sound.specs.Demands.{fromParts}
-use Rattle.sound.specs.Walk.{leftOf, walkedOn, wrongIn, Flags, recordsFrom, recordFits, Walked, countsIn}
-use Rattle.sound.proofs.Kept.{kept, clean}
+use Rattle.sound.specs.Walk.{leftOf, ownIn, withFull, withEmpty, walkedOn, flagsIn, countsIn}
+use Rattle.sound.specs.Walk.{recordsFrom, holdFrom, firstBad, marks, Walked}
+use Rattle.sound.proofs.Ored.{mask-test}
+use Rattle.sound.proofs.Kept.{word-full, word-empty, record-left, stage-left}
 
--- ---- what is left of several records
+-- ---- the first record out of range, as code keeps it
+
+pub first-kept : {first : ℕ} (before here left : ℕ)
+    → ((ownIn left ≡ 0) × (first ≡ before)) ⊎ ((ownIn left ≡ 0 → ⊥) × (first ≡ here))
+    → first ≡ cond (eqb (ownIn left) 0) before here
+first-kept before here left (inl w) = w .1 ∙ rw (eq-eqb (ownIn left) 0 (w .0))
+first-kept before here left (inr w) = w .1 ∙ rw (ne-eqb (ownIn left) 0 (w .0))
+
+-- ---- the sets
 
 or-zero : (a b : ℕ) → bitOr a b ≡ 0 → (a ≡ 0) × (b ≡ 0)
 or-zero a b e =
@@ -35,62 +47,6 @@ or-zero a b e =
     let two = and-le-r a b in
     (omega arith, omega arith)
 
-or-wrong : (a b : ℕ) → wrongIn (bitOr a b) ≡ 0 → (wrongIn a ≡ 0) × (wrongIn b ≡ 0)
-or-wrong a b e =
-    let low : bitOr (a % 256) (b % 256) ≡ 0 = sym (or-mod a b 8) ∙ omega arith in
-    let high : bitOr (a / 1024) (b / 1024) ≡ 0 = sym (or-shr a b 10) ∙ omega arith in
-    let lows = or-zero (a % 256) (b % 256) low in
-    let highs = or-zero (a / 1024) (b / 1024) high in
-    (omega (arith, lows .0, highs .0), omega (arith, lows .1, highs .1))
-
-or-flags : (h a h′ a′ : Bool)
-    → bitOr (256 * bit h + 512 * bit a) (256 * bit h′ + 512 * bit a′) ≡ 256 * bit (h || h′) + 512 * bit (a || a′)
-or-flags true true true true = refl
-or-flags true true true false = refl
-or-flags true true false true = refl
-or-flags true true false false = refl
-or-flags true false true true = refl
-or-flags true false true false = refl
-or-flags true false false true = refl
-or-flags true false false false = refl
-or-flags false true true true = refl
-or-flags false true true false = refl
-or-flags false true false true = refl
-or-flags false true false false = refl
-or-flags false false true true = refl
-or-flags false false true false = refl
-or-flags false false false true = refl
-or-flags false false false false = refl
-
--- whether there is any, with one more
-any-more : (n : ℕ) (b : Bool) → ltb 0 (n + bit b) ≡ ltb 0 n || b
-any-more zero true = refl
-any-more zero false = refl
-any-more (suc n) true = rw (lt-ltb 0 (suc n + 1) (omega arith), lt-ltb 0 (suc n) (omega arith))
-any-more (suc n) false = rw (lt-ltb 0 (suc n + 0) (omega arith), lt-ltb 0 (suc n) (omega arith))
-
-flags-none : Flags 0 0 0
-flags-none = record { h = 0; a = 0; total = refl; any = refl; sum = refl }
-
-flags-more : {count left flags : ℕ} (h a : Bool) → count ≤ 128 → Flags count left flags
-    → Flags (count + bit h + bit a) (bitOr left (256 * bit h + 512 * bit a))
-    ((flags + (256 * bit h + 512 * bit a)) % 2 ^ 64)
-flags-more {count} {left} {flags} h a few so =
-    let one = bit-le h in
-    let two = bit-le a in
-    let total = so .total in
-    let sum = so .sum in
-    let fits : flags + (256 * bit h + 512 * bit a) < 2 ^ 64 = omega arith in
-    record {
-      h = so .h + bit h;
-      a = so .a + bit a;
-      total = omega arith;
-      any = rw (so .any, or-flags (ltb 0 (so .h)) (ltb 0 (so .a)) h a, any-more (so .h) h, any-more (so .a) a);
-      sum = rw (mod-eq-of-lt fits) (omega arith);
-    }
-
--- ---- the sets
-
 -- no set has a bit
 pub counts-none : (w : Walk) → bitOr (w .full) (w .empty) ≡ 0 → 0 ≡ countsIn w
 unfolding ones
@@ -98,30 +54,41 @@ counts-none w none =
     let each = or-zero (w .full) (w .empty) none in
     rw (each .0, each .1)
 
+-- ---- the sum
+
+marks-le : (ps : List Process) → marks ps ≤ 2 * length ps
+unfolding sum
+marks-le [] = lit≤ tt
+marks-le (p ∷ ps) = omega (arith, marks-le ps, bit-le (for (p .mark) full), bit-le (for (p .mark) empty))
+
+-- the flags of at most 64 records stand below the marks
+pub flags-are : (s : List ℕ) (status : Status) (n : ℕ) {w : Walk} → n ≤ 64 → Walked s status 0 n w
+    → flagsIn w ≡ places (recordsFrom s 0 n)
+flags-are s status n {w} few so =
+    let ps = recordsFrom s 0 n in
+    let low : places ps ≤ 128 = omega (arith, places-le ps, length-tabulate (processIn s) 0 n) in
+    let here : (512 * places ps + 2097152 * marks ps) % 2097152 / 512 ≡ places ps = omega arith in
+    rw (so .flags, here)
+
 -- a set of fewer than 64 has room for one more
-pub set-below : (s : List ℕ) (st : Status) (i k : ℕ) {set : ℕ} → k < 64 → set ≡ markedSet st (recordsFrom s i k)
+set-below : (s : List ℕ) (st : Status) (i k : ℕ) {set : ℕ} → k < 64 → set ≡ markedSet st (recordsFrom s i k)
     → set < 2 ^ 63
 set-below s st i k {set} few is =
     let long = length-tabulate (processIn s) i k in
     let small : markedSet st (recordsFrom s i k) < 2 ^ k = rw long at (marked-lt st (recordsFrom s i k)) in
     rw is (le-trans small (pow-mono {i = k} {j = 63} (omega arith)))
 
+-- and so has the sum
+pub room-for-more : (s : List ℕ) (status : Status) (i k : ℕ) {w : Walk} → k < 64 → Walked s status i k w
+    → (w .flags < 2 ^ 63) × (w .full < 2 ^ 63) × (w .empty < 2 ^ 63)
+room-for-more s status i k {w} few so =
+    let ps = recordsFrom s i k in (
+      omega (arith, so .flags, length-tabulate (processIn s) i k, places-le ps, marks-le ps),
+      set-below s full i k few (so .full),
+      set-below s empty i k few (so .empty),
+    )
+
 -- ---- a record's word
-
--- bits 20 and 21 of a word are bits 4 and 5 of its byte 2
-module _ (a b c d note : ℕ) (a-lt : a < 256) (b-lt : b < 256) where
-  from-two : fromParts a b c d note / 65536 ≡ c + 256 * (d + 256 * note)
-  from-two = omega arith
-
-  bit-20 : fromParts a b c d note / 1048576 % 2 ≡ bit (bitOf c 4)
-  bit-20 =
-      let later : (c + 256 * (d + 256 * note)) / 16 % 2 ≡ c / 16 % 2 = omega arith in
-      rw (← shr-shr (fromParts a b c d note) 16 4, from-two, later) (sym (is-bit (c / 16 % 2) (omega arith)))
-
-  bit-21 : fromParts a b c d note / 2097152 % 2 ≡ bit (bitOf c 5)
-  bit-21 =
-      let later : (c + 256 * (d + 256 * note)) / 32 % 2 ≡ c / 32 % 2 = omega arith in
-      rw (← shr-shr (fromParts a b c d note) 16 5, from-two, later) (sym (is-bit (c / 32 % 2) (omega arith)))
 
 module _ (s : List ℕ) (small : Bytes s) (i : ℕ) where
   abbrev at : ℕ
@@ -130,74 +97,82 @@ module _ (s : List ℕ) (small : Bytes s) (i : ℕ) where
   abbrev word : ℕ
   word = number s at 8
 
+  abbrev p : Process
+  p = processIn s i
+
   pub word-is : word
       ≡ fromParts (getD s at 0) (getD s (at + 1) 0) (getD s (at + 2) 0) (getD s (at + 3) 0) (number s (at + 4) 4)
   word-is = rw (number-8 s at, number-4 s at) (omega arith)
 
-  mark-full : word / 1048576 % 2 ≡ bit (for (processIn s i .mark) full)
+  full-is : withFull word ≡ 256 * bit (p .have) + 1048576 * bit (for (p .mark) full)
   unfolding processIn
-  mark-full = rw word-is (bit-20 _ _ _ _ _ (small at) (small (at + 1)))
+  full-is = rw word-is (word-full _ _ _ _ _ (small at) (small (at + 1)) (small (at + 2)) (small (at + 3)))
 
-  mark-empty : word / 2097152 % 2 ≡ bit (for (processIn s i .mark) empty)
+  empty-is : withEmpty word ≡ 512 * bit (p .arriving) + 2097152 * bit (for (p .mark) empty)
   unfolding processIn
-  mark-empty = rw word-is (bit-21 _ _ _ _ _ (small at) (small (at + 1)))
+  empty-is = rw word-is (word-empty _ _ _ _ _ (small at) (small (at + 1)) (small (at + 2)) (small (at + 3)))
 
   module _ (status : Status) where
-    word-kept : recordFits s status i ≡ true
-        → leftOf (bit status) word ≡ 256 * bit (processIn s i .have) + 512 * bit (processIn s i .arriving)
+    own-is : eqb (ownIn (leftOf (bit status) word)) 0 ≡ holds (recordRulesIn s i)
     unfolding processIn
-    word-kept ok =
+    own-is =
         rw word-is
-        (kept status _ _ _ _ _ (small at) (small (at + 1)) (small (at + 2)) (small (at + 3))
-        (number-lt s (at + 4) small) ok)
+        (record-left _ _ _ _ _ (small at) (small (at + 1)) (small (at + 2)) (small (at + 3)) status
+        (number-lt s (at + 4) small))
 
-    word-clean : wrongIn (leftOf (bit status) word) ≡ 0 → recordFits s status i ≡ true
+    stage-is : holds (recordRulesIn s i) ≡ true
+        → eqb (bitAnd (leftOf (bit status) word) 263) 0 ≡ stageFits status (p .have) (p .stage)
     unfolding processIn
-    word-clean none =
-        clean status _ _ _ _ _ (small at) (small (at + 1)) (small (at + 2)) (small (at + 3))
-        (number-lt s (at + 4) small) (rw word-is at none)
+    stage-is ok =
+        rw word-is
+        (stage-left _ _ _ _ _ (small at) (small (at + 1)) (small (at + 2)) (small (at + 3)) status
+        (number-lt s (at + 4) small) ok)
 
     -- ---- the walk, with record i before those behind it
 
-    walk-more : (k : ℕ) {w : Walk} → k < 64 → Walked s status (i + 1) k w
-        → Walked s status i (suc k) (walkedOn w (bit status) word)
-    unfolding walkedOn tabulate all sum markedSet
-    walk-more k {w} below so =
-        let p = processIn s i in
+    walk-more : (k : ℕ) {w : Walk} → Walked s status (i + 1) k w
+        → Walked s status i (suc k) (walkedOn w (bit status) i word)
+    unfolding walkedOn firstBad tabulate all sum stagesFit markedSet
+    walk-more k {w} so =
         let ps = recordsFrom s (i + 1) k in
-        let few : places ps ≤ 128 = omega (arith, places-le ps, length-tabulate (processIn s) (i + 1) k) in
+        let one = bit-le (p .have) in
+        let two = bit-le (p .arriving) in
+        let mf = bit-le (for (p .mark) full) in
+        let me = bit-le (for (p .mark) empty) in
+        let digit : (256 * bit (p .have) + 1048576 * bit (for (p .mark) full)) / 1048576 ≡ bit (for (p .mark) full) =
+        omega arith in
+        let digit′ : (512 * bit (p .arriving) + 2097152 * bit (for (p .mark) empty)) / 2097152
+        ≡ bit (for (p .mark) empty) = omega arith in
         record {
-          clean =
-              λ none.
-              let each = or-wrong (w .left) (leftOf (bit status) word) none in
-              rw (word-clean (each .1), so .clean (each .0));
-          found =
+          first = rw (own-is, so .first);
+          stages =
               λ ok.
-              let here = word-kept (and-first (recordFits s status i) _ ok) in
-              let more : bit (p .have) + bit (p .arriving) + places ps ≡ places ps + bit (p .have) + bit (p .arriving) =
-              omega arith in
-              rw (here, more)
-              (flags-more (p .have) (p .arriving) few (so .found (and-second (recordFits s status i) _ ok)));
-          full = rw (mark-full, so .full) (omega arith);
-          empty = rw (mark-empty, so .empty) (omega arith);
+              let here = and-first (holds (recordRulesIn s i)) (holdFrom s (i + 1) k) ok in
+              let rest = so .stages (and-second (holds (recordRulesIn s i)) (holdFrom s (i + 1) k) ok) in
+              mask-test (w .left) (leftOf (bit status) word) 263
+              ∙ rw (rest, stage-is here) (and-comm (stagesFit status ps) (stageFits status (p .have) (p .stage)));
+          flags = rw (full-is, empty-is, so .flags) (omega arith);
+          full = rw (full-is, digit, so .full) (omega arith);
+          empty = rw (empty-is, digit′, so .empty) (omega arith);
         }
 
 pub walk-none : (s : List ℕ) (status : Status) (i : ℕ)
-    → Walked s status i 0 (record { left = 0; flags = 0; full = 0; empty = 0 })
-unfolding tabulate all sum markedSet
+    → Walked s status i 0 (record { first = i; left = 0; flags = 0; full = 0; empty = 0 })
+unfolding firstBad tabulate all sum stagesFit markedSet
 walk-none s status i =
     record {
-      clean = λ none. refl;
-      found = λ ok. flags-none;
+      first = refl;
+      stages = λ ok. refl;
+      flags = refl;
       full = refl;
       empty = refl;
     }
 
 -- as code has it: the status as a digit, and so many records up to n
-pub walk-step : (s : List ℕ) → Bytes s → (digit n i : ℕ) {w w′ : Walk} {word : ℕ} → digit < 2 → i < n → n ≤ 64
-    → Walked s (eqb digit 1) (i + 1) (n - (i + 1)) w → word ≡ number s (16 + 8 * i) 8 → w′ ≡ walkedOn w digit word
+pub walk-step : (s : List ℕ) → Bytes s → (digit n i : ℕ) {w w′ : Walk} {word : ℕ} → digit < 2 → i < n
+    → Walked s (eqb digit 1) (i + 1) (n - (i + 1)) w → word ≡ number s (16 + 8 * i) 8 → w′ ≡ walkedOn w digit i word
     → Walked s (eqb digit 1) i (n - i) w′
-walk-step s small digit n i {w} {w′} {word} two below most so read next =
+walk-step s small digit n i {w} {w′} {word} two below so read next =
     let same : bit (eqb digit 1) ≡ digit = is-bit digit (omega arith) in
     let one : n - i ≡ suc (n - (i + 1)) = omega arith in
-    rw (next, read, one) (rw same at (walk-more s small i (eqb digit 1) (n - (i + 1)) (omega arith) so))
+    rw (next, read, one) (rw same at (walk-more s small i (eqb digit 1) (n - (i + 1)) so))

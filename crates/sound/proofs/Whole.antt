@@ -1,5 +1,5 @@
 -- Soundness from the header's two words and what the walk gathers: one mask, one order and one compare are the header's
--- rules and both counts, and one flag and nothing else is left just where records and stages fit.
+-- rules and both counts; no record is out of range, every stage stands, and just one flag is set.
 use Prim.Native.Nat.{ℕ, _+_, _*_, _/_, _%_, _^_, _≤_, _<_}
 use mathlib.Core.Path.{_≡_, refl, sym, ap, _∙_}
 use mathlib.Core.Bool.{Bool, true, false, not, _&&_, _||_, true≢false}
@@ -13,20 +13,23 @@ use lib.Bits.{bitAnd, and-zero-r}
 use lib.Pow.{pow-mono}
 use lib.Count.{ones, ones-le}
 use borrow.Author.Tests.{not-true, not-false, eqb-true, eq-eqb, leb-true, le-leb}
+use Rattle.machine.specs.declared.Refusal.the-variants as refusal
+use Rattle.machine.specs.declared.Verdict.the-variants as verdict
 use Rattle.machine.specs.Bytes.{Bytes, number, zeros}
 use Rattle.machine.specs.Lists.{every}
 use Rattle.machine.specs.Fields.{Status, full, empty}
 use Rattle.machine.specs.Image.{envelopeIn, processesIn, sizeIn, stateIn}
-use Rattle.machine.specs.Sound.{headerFits, recordsFit, stagesFit, places, markedSet, restFits, sound, ones64}
+use Rattle.machine.specs.Sound.{headerFits, recordsFit, places, markedSet, restFits, sound, ones64}
+use Rattle.machine.specs.Refusals.{unless, soundVerdict}
 use Rattle.machine.proofs.Laws.Bytes.{lt-or-ge, number-8, number-more, number-lt, zeros-number}
-use Rattle.machine.proofs.Laws.Lists.{and-first, and-second, and-both, same-test, either-way, alike}
+use Rattle.machine.proofs.Laws.Lists.{and-first, and-second, and-both, either-way, alike}
 use Rattle.machine.proofs.Soundness.Sound.{sound-facts}
 use Rattle.machine.proofs.Laws.Walk.{length-processes, marked-lt, ones-64}
-use Rattle.sound.specs.declared.Walk.{Walk}
-use Rattle.sound.specs.Walk.{recordsFrom, fitFrom, Walked, countsIn}
+use Rattle.sound.specs.declared.walk.Walk.{Walk}
+use Rattle.sound.specs.Walk.{recordsFrom, standIn, flagsIn, countsIn, Walked}
 use Rattle.sound.proofs.Masks.{two-parts}
-use Rattle.sound.proofs.One.{oneFlag, one-place}
-use Rattle.sound.proofs.Fits.{fit-whole}
+use Rattle.sound.proofs.Fits.{hold-whole, bad-none}
+use Rattle.sound.proofs.Walked.{flags-are}
 
 -- ---- the header's two words
 
@@ -84,10 +87,12 @@ module _ (s : List ℕ) (small : Bytes s) where
   all-zero at width none = zeros-number s at width ∙ eq-eqb (number s at width) 0 none
 
   -- the tests as code makes them
-  pub record Passes (w : Walk) : Type 0 where
+  pub record Passes (n : ℕ) (w : Walk) : Type 0 where
     pub mask : bitAnd first 16580096 ≡ 0
     pub message : second ≤ first / 256 % 2 * 4294967295
-    pub one : oneFlag (w .left) (w .flags) ≡ true
+    pub records : w .first ≡ n
+    pub stages : standIn w ≡ true
+    pub one : flagsIn w ≡ 1
     pub counts : countsIn w ≡ first / 16777216
 
   module _ {n : ℕ} {w : Walk} (size : n ≡ sizeIn s) (most : n ≤ 64)
@@ -123,7 +128,13 @@ module _ (s : List ℕ) (small : Bytes s) where
         ≡ ones64 (markedSet full (processesIn s n)) + 256 * ones64 (markedSet empty (processesIn s n))
     counts-are = rw (count-is full (walked .full), count-is empty (walked .empty))
 
-    sound-passes : sound s ≡ true → Passes w
+    -- no record is out of range just where all are in it
+    records-are : eqb (w .first) n ≡ recordsFit s n
+    records-are =
+        let here : 0 + n ≡ n = omega arith in
+        rw (walked .first, ← hold-whole s n) (rw here at (bad-none s 0 n))
+
+    sound-passes : sound s ≡ true → Passes n w
     unfolding sound stateIn processesIn envelopeIn
     sound-passes ok =
         let facts = sound-facts s ok in
@@ -138,8 +149,7 @@ module _ (s : List ℕ) (small : Bytes s) where
         eqb-true (ones64 (markedSet full (processesIn s (sizeIn s)))) (getD s 3 0) (facts .rest .count-full) in
         let empty-count =
         eqb-true (ones64 (markedSet empty (processesIn s (sizeIn s)))) (getD s 4 0) (facts .rest .count-empty) in
-        let fit : fitFrom s status 0 n ≡ true =
-        fit-whole s status n ∙ rw (size, records, status-is (h .status)) (facts .rest .stages) in
+        let held : recordsFit s n ≡ true = rw size records in
         record {
           mask = masked ∙ rw (a, b);
           message =
@@ -148,11 +158,13 @@ module _ (s : List ℕ) (small : Bytes s) where
               let one = eqb-true (getD s 1 0) 1 is in
               omega (arith, one, status-bit, second-is, spare, number-lt s 8 small))
               (λ none. omega (arith, second-is, spare, nothing 8 4 none)) (h .message);
-          one = one-place s status n walked ∙ rw (fit, size) (eq-eqb _ 1 (facts .rest .one-place));
+          records = eqb-true (w .first) n (records-are ∙ held);
+          stages = walked .stages (hold-whole s n ∙ held) ∙ rw (size, status-is (h .status)) (facts .rest .stages);
+          one = flags-are s status n most walked ∙ rw size (facts .rest .one-place);
           counts = counts-are ∙ rw (size, full-count, empty-count, counts-above, unnamed) (omega arith);
         }
 
-    module _ (p : Passes w) where
+    module _ (p : Passes n w) where
       low : getD s 1 0 ≤ 1
       low =
           let none : bitAnd (getD s 1 0) 254 ≡ 0 = omega (arith, sym masked ∙ p .mask) in
@@ -196,20 +208,17 @@ module _ (s : List ℕ) (small : Bytes s) where
             all-zero 12 4 spare,
           )
 
-      one-there : fitFrom s status 0 n && eqb (places (recordsFrom s 0 n)) 1 ≡ true
-      one-there = sym (one-place s status n walked) ∙ p .one
-
-      records-fit : recordsFit s n && stagesFit status (processesIn s n) ≡ true
-      records-fit = sym (fit-whole s status n) ∙ and-first (fitFrom s status 0 n) _ one-there
+      records-fit : recordsFit s n ≡ true
+      records-fit = sym records-are ∙ eq-eqb (w .first) n (p .records)
 
       rest-fits : restFits (stateIn s) ≡ true
       unfolding restFits stateIn processesIn envelopeIn
       rest-fits =
           rw (
             ← size,
-            and-second (fitFrom s status 0 n) _ one-there,
+            eq-eqb (places (recordsFrom s 0 n)) 1 (sym (flags-are s status n most walked) ∙ p .one),
             ← status-is low,
-            and-second (recordsFit s n) _ records-fit,
+            sym (walked .stages (hold-whole s n ∙ records-fit)) ∙ p .stages,
             eq-eqb (ones64 (markedSet full (processesIn s n))) (getD s 3 0) (counted .0),
             eq-eqb (ones64 (markedSet empty (processesIn s n))) (getD s 4 0) (counted .1),
           )
@@ -217,52 +226,62 @@ module _ (s : List ℕ) (small : Bytes s) where
       passes-sound : sound s ≡ true
       unfolding sound
       passes-sound =
-          let records : recordsFit s (sizeIn s) ≡ true = rw (← size) (and-first (recordsFit s n) _ records-fit) in
+          let records : recordsFit s (sizeIn s) ≡ true = rw (← size) records-fit in
           and-both (headerFits s && recordsFit s (sizeIn s)) (restFits (stateIn s))
           (and-both (headerFits s) (recordsFit s (sizeIn s)) header-fits records) rest-fits
 
     -- an image that isn't sound fails a test
-    unsound : (Passes w → ⊥) → false ≡ sound s
+    unsound : (Passes n w → ⊥) → verdict.Refused refusal.Unsound ≡ soundVerdict s
+    unfolding soundVerdict
     unsound fails = go (sound s) refl
       where
-        go : (b : Bool) → sound s ≡ b → false ≡ b
+        go : (b : Bool) → sound s ≡ b → verdict.Refused refusal.Unsound ≡ unless b refusal.Unsound
         go true ok = absurd (fails (sound-passes ok))
         go false not-so = refl
 
+    -- and one that fails none is sound
+    pub passed : Passes n w → verdict.Fine ≡ soundVerdict s
+    unfolding soundVerdict
+    passed p = rw (passes-sound p)
+
 -- ---- as code goes through the tests
 
-module _ (s : List ℕ) (small : Bytes s) {n a b : ℕ} {w : Walk} (size : n ≡ sizeIn s) (most : n ≤ 64)
-    (one : a ≡ number s 0 8)
-    (two : b ≡ number s 8 8) (walked : Walked s (eqb (a / 256 % 2) 1) 0 n w) where
-  -- the walk was under the status that the word has
-  same-walk : Walked s (eqb (number s 0 8 / 256 % 2) 1) 0 n w
-  same-walk = rw one at walked
+module _ (s : List ℕ) (small : Bytes s) {n : ℕ} {w : Walk} (size : n ≡ sizeIn s) (most : n ≤ 64)
+    (walked : Walked s (eqb (number s 0 8 / 256 % 2) 1) 0 n w) where
+  refuse : (Passes s small n w → ⊥) → verdict.Refused refusal.Unsound ≡ soundVerdict s
+  refuse = unsound s small size most walked
 
-  refuse : (Passes s small w → ⊥) → false ≡ sound s
-  refuse = unsound s small size most same-walk
+  pub mask-refuses : {a : ℕ} → a ≡ number s 0 8 → (bitAnd a 16580096 ≡ 0 → ⊥)
+      → verdict.Refused refusal.Unsound ≡ soundVerdict s
+  mask-refuses one left = refuse (λ p. left (rw one (p .mask)))
 
-  pub mask-refuses : (bitAnd a 16580096 ≡ 0 → ⊥) → false ≡ sound s
-  mask-refuses left = refuse (λ p. left (rw one (p .mask)))
+  pub message-refuses : {a b : ℕ} → a ≡ number s 0 8 → b ≡ number s 8 8 → a / 256 % 2 * 4294967295 < b
+      → verdict.Refused refusal.Unsound ≡ soundVerdict s
+  message-refuses one two more = refuse (λ p. omega (arith, p .message, rw (one, two) at more))
 
-  pub message-refuses : a / 256 % 2 * 4294967295 < b → false ≡ sound s
-  message-refuses more = refuse (λ p. omega (arith, p .message, rw (one, two) at more))
+  pub records-refuse : (w .first ≡ n → ⊥) → verdict.Refused refusal.Unsound ≡ soundVerdict s
+  records-refuse bad = refuse (λ p. bad (p .records))
 
-  pub flags-refuse : not (oneFlag (w .left) (w .flags)) ≡ true → false ≡ sound s
-  flags-refuse no-flag = refuse (λ p. true≢false (sym (p .one) ∙ not-true _ no-flag))
+  pub stages-refuse : {b : Bool} → b ≡ standIn w → not b ≡ true → verdict.Refused refusal.Unsound ≡ soundVerdict s
+  stages-refuse is wrong = refuse (λ p. true≢false (sym (p .stages) ∙ sym is ∙ not-true _ wrong))
 
-  pub counts-decide : {c : ℕ} → bitAnd a 16580096 ≡ 0 → b ≤ a / 256 % 2 * 4294967295
-      → not (oneFlag (w .left) (w .flags)) ≡ false → c ≡ countsIn w
-      → eqb c (a / 16777216) ≡ sound s
-  counts-decide {c} mask message flag is =
-      same-test _ _
-      (λ same.
-      passes-sound s small size most same-walk
+  pub flags-refuse : {f : ℕ} → f ≡ flagsIn w → (f ≡ 1 → ⊥) → verdict.Refused refusal.Unsound ≡ soundVerdict s
+  flags-refuse is other = refuse (λ p. other (is ∙ p .one))
+
+  pub counts-refuse : {a c : ℕ} → a ≡ number s 0 8 → c ≡ countsIn w → (c ≡ a / 16777216 → ⊥)
+      → verdict.Refused refusal.Unsound ≡ soundVerdict s
+  counts-refuse one is other = refuse (λ p. other (is ∙ p .counts ∙ ap (λ (x : ℕ). x / 16777216) (sym one)))
+
+  pub all-passed : {a b c f : ℕ} {t : Bool} → a ≡ number s 0 8 → b ≡ number s 8 8 → bitAnd a 16580096 ≡ 0
+      → b ≤ a / 256 % 2 * 4294967295 → w .first ≡ n → t ≡ standIn w → not t ≡ false → f ≡ flagsIn w → f ≡ 1
+      → c ≡ countsIn w → c ≡ a / 16777216 → verdict.Fine ≡ soundVerdict s
+  all-passed {a} {b} {c} {f} {t} one two mask message records stand stood flags set counts same =
+      passed s small size most walked
       (record {
         mask = rw one at mask;
         message = rw (one, two) at message;
-        one = not-false _ flag;
-        counts = sym is ∙ eqb-true c (a / 16777216) same ∙ ap (λ x. x / 16777216) one;
-      }))
-      (λ ok.
-      eq-eqb c (a / 16777216)
-      (is ∙ sound-passes s small size most same-walk ok .counts ∙ ap (λ x. x / 16777216) (sym one)))
+        records = records;
+        stages = sym stand ∙ not-false _ stood;
+        one = sym flags ∙ set;
+        counts = sym counts ∙ same ∙ ap (λ (x : ℕ). x / 16777216) one;
+      })

@@ -1,16 +1,24 @@
 -- What soundness demands of one process record, as a mask over its eight bytes: document 01, "The image", its paragraph
--- on soundness. A mask's bits must be 0 in the record, but for have and arriving, which are counted.
+-- on soundness. A mask's bits must be 0 in the record. Have and the stage's three lowest bits are turned over before
+-- they are masked, so that a mask which has them demands 1.
 use Prim.Native.Nat.{ℕ, _+_, _*_, _/_, _%_}
-use mathlib.Core.Bool.{Bool, not, cond, _&&_}
+use mathlib.Core.Bool.{Bool, not, cond, _||_}
 use lib.Dec.{eqb, leb}
 use Rattle.machine.specs.Bytes.{bit}
 use Rattle.machine.specs.Fields.{Status, full, empty}
-use Rattle.machine.specs.Stages.{lastStage, noted, markable}
-use Rattle.machine.specs.Sound.{stageFits}
+use Rattle.machine.specs.Stages.{lastStage, noted, withEmpty, withFull, markable}
 
--- whether this is a stage, and may stand under this status, with or without have
-abbrev pub lawful : Status → Bool → ℕ → Bool
-lawful status have stage = leb stage lastStage && stageFits status have stage
+-- a stage that may not stand under this status
+abbrev pub against : Status → ℕ → Bool
+against status stage = cond status (withEmpty stage) (withFull stage)
+
+-- byte 0: bits 4 to 7; and where the stage may not stand the three lowest, which no such stage has all
+abbrev pub stageMask : Status → ℕ → ℕ
+stageMask status stage = 240 + 7 * bit (against status stage)
+
+-- byte 1: bits 3 to 7; and have, in a stage that has the envelope
+abbrev pub flagMask : ℕ → ℕ
+flagMask stage = 248 + bit (withEmpty stage || withFull stage)
 
 -- byte 2: the marks that may not stand at this stage
 abbrev pub markMask : ℕ → ℕ
@@ -24,20 +32,19 @@ noteMask stage = cond (noted stage) 0 4294967295
 abbrev pub fromParts : ℕ → ℕ → ℕ → ℕ → ℕ → ℕ
 fromParts a b c d note = a + 256 * (b + 256 * (c + 256 * (d + 256 * note)))
 
--- the mask of a stage that may stand: bits 4 to 7 of byte 0, all but news of byte 1, the marks, byte 3, the note
-abbrev pub lawfulMask : ℕ → ℕ
-lawfulMask stage = fromParts 240 251 (markMask stage) 255 (noteMask stage)
+-- the mask of a stage, in which byte 3 is whole
+abbrev pub maskOf : Status → ℕ → ℕ
+maskOf status stage = fromParts (stageMask status stage) (flagMask stage) (markMask stage) 255 (noteMask stage)
 
--- an entry is stage + 16 × have + 32 × status
+-- an entry is stage + 16 × status
 abbrev pub entryOf : ℕ → ℕ → ℕ
-entryOf status word = 32 * status + (word % 512 + word % 512 / 16) % 32
+entryOf status word = 16 * status + word % 16
 
--- where the stage may not stand all of byte 0 must be 0, which it isn't; the last entry has a bit of byte 1 besides
-abbrev pub unlawfulMask : ℕ → ℕ
-unlawfulMask entry = 255 + 256 * bit (eqb entry 63)
+-- above the last stage bits 3 to 7 of byte 0, of which 11 to 15 have bit 3; the last entry has the lowest three besides
+abbrev pub beyondMask : ℕ → ℕ
+beyondMask entry = 248 + 7 * bit (eqb entry 31)
 
 -- the mask of an entry
 unfoldable pub demandOf : ℕ → ℕ
 demandOf entry =
-    cond (lawful (eqb (entry / 32) 1) (eqb (entry / 16 % 2) 1) (entry % 16)) (lawfulMask (entry % 16))
-    (unlawfulMask entry)
+    cond (leb (entry % 16) lastStage) (maskOf (eqb (entry / 16) 1) (entry % 16)) (beyondMask entry)

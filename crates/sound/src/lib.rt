@@ -1,159 +1,104 @@
-// Whether an image is sound: one walk over its records, and what binds them to the header. Document 01, "The image",
-// its paragraph on soundness.
+// Whether an image is sound, and what one walk over its records finds, sound or not: the survey call. Document 01, "The
+// image", its paragraph on soundness; document 02, A.3.
 use image::Ring;
 use little_endian::eight_at;
 use little_endian::wide;
 use machine::Refusal;
 use machine::Verdict;
-use std::num::wrapping_add_u64;
+use numbers::refusal_of;
+use walk::Walk;
 ghost use mathlib.Core.Path.{_≡_};
-ghost use Prim.Native.Nat.{_+_, _*_, _^_, _≤_, _<_};
+ghost use Prim.Native.Nat.{_+_, _*_, _/_, _%_, _≤_};
 ghost use lib.ListN.{length};
 ghost use lib.Dec.{eqb};
+ghost use Rattle.machine.specs.declared.Verdict.the-variants as verdict;
+ghost use Rattle.machine.specs.Bytes.{number};
 ghost use Rattle.machine.specs.Image.{sizeIn};
-ghost use Rattle.machine.specs.Sound as rule;
-ghost use Rattle.machine.specs.Refusals.{imageVerdict};
-ghost use Rattle.sound.specs.Demands.{demandOf};
-ghost use Rattle.sound.specs.Walk.{walkedOn, Walked, countsIn};
+ghost use Rattle.machine.specs.Refusals.{frontVerdict, soundVerdict, imageVerdict};
+ghost use Rattle.machine.specs.Survey.{surveyAnswer};
+ghost use Rattle.sound.specs.Walk.{Walked};
+ghost use Rattle.sound.specs.Survey.{inNumbers, refusalOf, findingsIn};
 
-// What a walk over the records gathers: every bit that is left under a record's mask, their sum, which counts the have
-// and arriving flags where no other bit is left, and the sets of the processes marked for full and for empty.
-pub struct Walk {
-    pub left: u64,
+pub mod walk;
+
+// What a survey finds: the verdict of soundness, how many have and arriving flags are set, and the sets of the
+// processes marked for full and for empty, whose digit i is process i.
+pub struct Findings {
+    pub verdict: Verdict,
     pub flags: u64,
     pub full: u64,
     pub empty: u64,
 }
 
-// A record's bits that must be 0, by its stage, with have and arriving, which are counted, and without news and the
-// requests. In stages 0 and 6 no mark and no note may stand; in 1 a note; in 2 and 3 a note and mark empty; in 4 and 5
-// mark empty; in 7 to 10 mark full.
-const PLAIN: u64 = 0xFFFF_FFFF_FF30_FBF0;
-
-const TOLD: u64 = 0x0000_0000_FF30_FBF0;
-
-const SENDING: u64 = 0x0000_0000_FF10_FBF0;
-
-const FILLED: u64 = 0xFFFF_FFFF_FF10_FBF0;
-
-const RECEIVING: u64 = 0xFFFF_FFFF_FF20_FBF0;
-
-// The mask of an entry, which is stage + 16 * have + 32 * status. A stage that may not stand there has its whole byte
-// tested, and none is 0. One value an arm, and a last entry of its own, so that the masks lie in one table.
-fn demand(entry: u64) -> u64
-    requires { ⌜ entry < 64 ⌝ }
-    ensures { λ r. ⌜ r ≡ demandOf entry ⌝ }
-{
-    match entry {
-        // empty, without have
-        0 => PLAIN,
-        1 => TOLD,
-        2 => SENDING,
-        6 => PLAIN,
-        7 => RECEIVING,
-        // empty, with have
-        16 => PLAIN,
-        17 => TOLD,
-        18 => SENDING,
-        19 => SENDING,
-        22 => PLAIN,
-        23 => RECEIVING,
-        25 => RECEIVING,
-        26 => RECEIVING,
-        // full, without have
-        32 => PLAIN,
-        33 => TOLD,
-        34 => SENDING,
-        38 => PLAIN,
-        39 => RECEIVING,
-        // full, with have
-        48 => PLAIN,
-        49 => TOLD,
-        50 => SENDING,
-        52 => FILLED,
-        53 => FILLED,
-        54 => PLAIN,
-        55 => RECEIVING,
-        56 => RECEIVING,
-        63 => 0x1FF,
-        _ => 0xFF,
-    }
+// What the survey call answers.
+pub enum Surveyed {
+    Done(Findings),
+    Refused(Refusal),
 }
 
-impl Walk {
-    // The walk with one record more.
-    fn on(self, status: u64, word: u64) -> Walk
-        requires { ⌜ (status < 2) × (self .full < 2 ^ 63) × (self .empty < 2 ^ 63) ⌝ }
-        ensures { λ r. ⌜ r ≡ walkedOn self status word ⌝ }
+impl Surveyed {
+    // Internal: the refusal of a survey that is refused. No other is asked for it.
+    pub fn refusal(self) -> Refusal
+        ensures { λ r. ⌜ r ≡ refusalOf self ⌝ }
     {
-        let low = word % 512;
-        let left = demand(32 * status + (low + low / 16) % 32) & word;
-        Walk {
-            left: self.left | left,
-            flags: wrapping_add_u64(self.flags, left),
-            full: 2 * self.full + word / 0x10_0000 % 2,
-            empty: 2 * self.empty + word / 0x20_0000 % 2,
+        match self {
+            Surveyed::Refused(refusal) => refusal,
+            _ => Refusal::Output,
         }
-    }
-
-    // The walk over n records, from the last to the first, so that digit i of a set is process i.
-    fn over(image: &[u8], status: u64, n: usize) -> Walk
-        requires { ⌜ (status < 2) × (n ≤ 64) × (16 + 8 * n ≤ length (now image)) ⌝ }
-        ensures { λ r. ⌜ Walked (now (image .entry)) (eqb status 1) 0 n r ⌝ }
-    {
-        let mut walk = Walk {
-            left: 0,
-            flags: 0,
-            full: 0,
-            empty: 0,
-        };
-        let mut i = n;
-        while 0 < i {
-            i -= 1;
-            walk = walk.on(status, eight_at(image, 16 + 8 * i));
-        }
-        walk
-    }
-
-    // How many are in both sets, as header bytes 3 and 4 have it. Where nobody is marked no ones are counted: 8 % of a
-    // step of two processes.
-    fn counts(self) -> u64
-        ensures { λ r. ⌜ r ≡ countsIn self ⌝ }
-    {
-        if self.full | self.empty == 0 {
-            return 0;
-        }
-        u64::count_ones(self.full) as u64 + 256 * u64::count_ones(self.empty) as u64
     }
 }
 
 // The bits of the header's first word that no rule names, up to the markers.
 const UNNAMED: u64 = 0xFC_FE00;
 
-// Internal: whether an image of n processes is sound. Both counts and the zeros behind them are one compare.
-pub fn is_sound(image: &[u8], n: usize) -> bool
-    requires { ⌜ (n ≡ sizeIn (now image)) × (n ≤ 64) × (16 + 8 * n ≤ length (now image)) ⌝ }
-    ensures { λ r. ⌜ r ≡ rule.sound (now (image .entry)) ⌝ }
+// Whether an image is sound, from its header and a walk over its records: refused with 4 where it isn't. Both counts
+// and the zeros behind them are one compare.
+fn sound_verdict(image: &[u8], n: usize, walk: Walk) -> Verdict
+    requires { ⌜ (n ≡ sizeIn (now image)) × (n ≤ 64) × (16 + 8 * n ≤ length (now image))
+        × Walked (now image) (eqb (number (now image) 0 8 / 256 % 2) 1) 0 n walk ⌝ }
+    ensures { λ r. ⌜ r ≡ soundVerdict (now (image .entry)) ⌝ }
 {
     let first = eight_at(image, 0);
-    let second = eight_at(image, 8);
-    let status = first / 0x100 % 2;
-    let w = Walk::over(image, status, n);
     if first & UNNAMED != 0 {
-        return false;
+        return Verdict::Refused(Refusal::Unsound);
     }
-    if status * 0xFFFF_FFFF < second {
-        return false;
+    if first / 0x100 % 2 * 0xFFFF_FFFF < eight_at(image, 8) {
+        return Verdict::Refused(Refusal::Unsound);
     }
-    if !(((w.left == 256) | (w.left == 512)) & (w.flags == w.left)) {
-        return false;
+    if walk.first != n {
+        return Verdict::Refused(Refusal::Unsound);
     }
-    w.counts() == first / 0x100_0000
+    if !walk.stages_stand() {
+        return Verdict::Refused(Refusal::Unsound);
+    }
+    if walk.flags() != 1 {
+        return Verdict::Refused(Refusal::Unsound);
+    }
+    if walk.counts() != first / 0x100_0000 {
+        return Verdict::Refused(Refusal::Unsound);
+    }
+    Verdict::Fine
 }
 
-// Internal: an image's verdict: refused with 3 for its length, 4 for its bytes.
-pub fn image_verdict(image: &[u8]) -> Verdict
-    ensures { λ r. ⌜ r ≡ imageVerdict (now (image .entry)) ⌝ }
+// What is found in an image that has room for its records: every call that tests an image comes here.
+fn found(image: &[u8]) -> Findings
+    requires { ⌜ frontVerdict (now image) ≡ verdict.Fine ⌝ }
+    ensures { λ r. ⌜ r ≡ findingsIn (now (image .entry)) ⌝ }
+{
+    let n = wide(image[0]);
+    let walk = Walk::over(image, eight_at(image, 0) / 0x100 % 2, n);
+    let verdict = sound_verdict(image, n, walk);
+    Findings {
+        verdict: verdict,
+        flags: walk.flags(),
+        full: walk.full,
+        empty: walk.empty,
+    }
+}
+
+// Internal: an image's verdict before its bytes are looked at: refused with 3 for its length, 4 for byte 0.
+pub fn front_verdict(image: &[u8]) -> Verdict
+    ensures { λ r. ⌜ r ≡ frontVerdict (now (image .entry)) ⌝ }
 {
     if image.len() < 16 {
         return Verdict::Refused(Refusal::Short);
@@ -168,8 +113,31 @@ pub fn image_verdict(image: &[u8]) -> Verdict
     if image.len() < 16 + 8 * n {
         return Verdict::Refused(Refusal::Short);
     }
-    if !is_sound(image, n) {
-        return Verdict::Refused(Refusal::Unsound);
-    }
     Verdict::Fine
+}
+
+// Internal: an image's verdict: that, then whether it is sound.
+pub fn image_verdict(image: &[u8]) -> Verdict
+    ensures { λ r. ⌜ r ≡ imageVerdict (now (image .entry)) ⌝ }
+{
+    let verdict = front_verdict(image);
+    let Verdict::Fine = verdict else {
+        return verdict;
+    };
+    let findings = found(image);
+    let sound = findings.verdict;
+    sound
+}
+
+// The survey call: what one walk over the records finds, sound or not; or the refusal of an image that can't be walked
+// over: 3 for its length, 4 for byte 0.
+pub fn survey(image: &[u8]) -> Surveyed
+    ensures { λ r. ⌜ inNumbers r ≡ surveyAnswer (now (image .entry)) ⌝ }
+{
+    let verdict = front_verdict(image);
+    let Verdict::Fine = verdict else {
+        return Surveyed::Refused(refusal_of(verdict));
+    };
+    let findings = found(image);
+    Surveyed::Done(findings)
 }

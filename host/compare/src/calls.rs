@@ -6,6 +6,9 @@ use vengloaz::raw;
 /// Image, tape, ledger, result.
 type Run = fn(&mut [u8], &[u8], &mut [u8], &mut [u8]) -> u64;
 
+/// Image, result.
+pub type Look = fn(&[u8], &mut [u8]) -> u64;
+
 /// N, list or tape, output, result.
 type Rewrite = fn(u64, &[u8], &mut [u8], &mut [u8]) -> u64;
 
@@ -20,8 +23,8 @@ pub struct Calls {
     /// Image, event, result.
     pub step: fn(&mut [u8], &[u8], &mut [u8]) -> u64,
     pub run: Run,
-    /// Image, result.
-    pub stopped: fn(&[u8], &mut [u8]) -> u64,
+    pub stopped: Look,
+    pub survey: Look,
     /// N, home, image, result.
     pub fresh: fn(u64, u64, &mut [u8], &mut [u8]) -> u64,
     pub write: Rewrite,
@@ -35,6 +38,7 @@ pub static PROVED: Calls = Calls {
     step: raw::ring_step,
     run: raw::ring_run,
     stopped: raw::ring_stopped,
+    survey: raw::ring_survey,
     fresh: raw::ring_fresh,
     write: raw::ring_write,
     read: raw::ring_read,
@@ -44,9 +48,6 @@ pub static PROVED: Calls = Calls {
 /// The plain implementation.
 pub static PLAIN: Calls = plain::<0>();
 
-/// Plain once more, with the marked processes gathered in two sets, as the proved library has to.
-pub static SETS: Calls = plain::<{ plain::SETS }>();
-
 /// The plain implementation, right (0) or with a fault planted.
 pub const fn plain<const FAULT: u8>() -> Calls {
     Calls {
@@ -54,6 +55,7 @@ pub const fn plain<const FAULT: u8>() -> Calls {
         step: plain::ring_step::<FAULT>,
         run: plain::ring_run::<FAULT>,
         stopped: plain::ring_stopped::<FAULT>,
+        survey: plain::ring_survey::<FAULT>,
         fresh: plain::ring_fresh::<FAULT>,
         write: plain::ring_write::<FAULT>,
         read: plain::ring_read::<FAULT>,

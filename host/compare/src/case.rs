@@ -25,6 +25,11 @@ pub trait Case: Clone + PartialEq + fmt::Display + 'static {
 
     /// Makes the call on one side, and gives the returned number.
     fn call(&self, side: &Calls, lent: Slices) -> u64;
+
+    /// A call that is made on the same bytes whenever this one is, if there is one.
+    fn beside(&self) -> Option<Self> {
+        None
+    }
 }
 
 /// What is lent to a call; what it doesn't have is empty.

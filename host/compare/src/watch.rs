@@ -45,8 +45,17 @@ impl<T: Tally> Watch<T> {
         Watch { tally: T::default(), sides }
     }
 
-    /// Makes a call on both.
+    /// Makes a call on both, and the one beside it.
     pub fn call(&mut self, case: &T::Case) -> Work<Answer, T::Case> {
+        let answer = self.alone(case)?;
+        if let Some(beside) = case.beside() {
+            self.alone(&beside)?;
+        }
+        Ok(answer)
+    }
+
+    /// Makes a call on both, and no other.
+    fn alone(&mut self, case: &T::Case) -> Work<Answer, T::Case> {
         let answer = compare(case, &self.sides).map_err(|lines| Found::new(case, lines))?;
         self.tally.count(case, &answer);
         Ok(answer)

@@ -1,9 +1,9 @@
-//! The image: its bits, what makes it sound, the fresh ring and stopped ("The image", "Stopped").
+//! The image: its bits, its parts, the fresh ring and stopped ("The image", "Stopped").
 //!
 //! The header's first 8 bytes and each process record are handled as one little-endian 64-bit word.
 
 use crate::answer::Refusal;
-use crate::SETS;
+use crate::walk::walk;
 
 pub const LEAST_SIZE: u64 = 2;
 pub const MOST_SIZE: u64 = 64;
@@ -87,100 +87,29 @@ impl<'a> Ring<'a> {
 }
 
 const TOO_SHORT: Refusal = Refusal { number: 3, place: 0 };
-const NOT_SOUND: Refusal = Refusal { number: 4, place: 0 };
+pub const NOT_SOUND: Refusal = Refusal { number: 4, place: 0 };
 
-/// The envelope and the records of a sound image, or its refusal: under 16 bytes, N, the length,
-/// then the rest.
+/// The envelope and the records of an image, sound or not, or its refusal: under 16 bytes, N below
+/// the least or above the most, the length.
 #[inline(always)]
-pub fn sound<const FAULT: u8>(image: &[u8]) -> Result<(Envelope, &[[u8; 8]]), Refusal> {
+pub fn parts(image: &[u8], most: u64) -> Result<(Envelope, &[[u8; 8]]), Refusal> {
     let (header, rest) = image.split_first_chunk::<16>().ok_or(TOO_SHORT)?;
     let envelope = Envelope::load(header);
-    if !(LEAST_SIZE..=MOST_SIZE).contains(&(envelope.word & 0xFF)) {
+    if !(LEAST_SIZE..=most).contains(&(envelope.word & 0xFF)) {
         return Err(NOT_SOUND);
     }
     let (records, _) = rest.as_chunks::<8>();
     let records = records.get(..envelope.size()).ok_or(TOO_SHORT)?;
-    if !all_sound::<FAULT>(envelope, records) {
-        return Err(NOT_SOUND);
-    }
     Ok((envelope, records))
 }
 
-/// Whether header and records hold together, in one walk over the records: the marks are summed up with the flags, or
-/// gathered in two sets whose ones are counted.
+/// The envelope and the records of a sound image, or its refusal: what its parts are refused with,
+/// then what the walk finds.
 #[inline(always)]
-fn all_sound<const FAULT: u8>(envelope: Envelope, records: &[[u8; 8]]) -> bool {
-    let tested = &Tested::<FAULT>::BY_STATUS[envelope.status() as usize];
-    let mut wrong = 0;
-    let mut have_and_full = 0;
-    let mut arriving_and_empty = 0;
-    let (mut full, mut empty) = (0u64, 0u64);
-    for record in records {
-        let record = u64::from_le_bytes(*record);
-        wrong |= (record ^ HAVE) & tested[(record & 15) as usize];
-        if FAULT == SETS {
-            have_and_full += record & HAVE;
-            arriving_and_empty += record & ARRIVING;
-            full = full << 1 | record >> 20 & 1;
-            empty = empty << 1 | record >> 21 & 1;
-        } else {
-            have_and_full += record & (HAVE | MARKED_FULL);
-            arriving_and_empty += record & (ARRIVING | MARKED_EMPTY);
-        }
-    }
-    let places = (have_and_full >> 8 & 0x7F) + (arriving_and_empty >> 9 & 0x7F);
-    let marked = if FAULT == SETS {
-        u64::from(full.count_ones()) << 24 | u64::from(empty.count_ones()) << 32
-    } else {
-        (have_and_full >> 20) << 24 | (arriving_and_empty >> 21) << 32
-    };
-    wrong == 0 && places == 1 && header_sound(envelope, marked)
-}
-
-/// Whether the header's ranges and zeros hold and its counts are those of the marks.
-fn header_sound(envelope: Envelope, marked: u64) -> bool {
-    let counts = envelope.word & !(0xFF | FULL | FULL_WANTED | EMPTY_WANTED);
-    let most = if envelope.status() == 1 { 0xFFFF_FFFF } else { 0 };
-    counts == marked && envelope.message <= most
-}
-
-/// The bits of a record that must be 0, by status and the low four bits of the stage; only have,
-/// where it is among them, must be 1.
-struct Tested<const FAULT: u8>;
-
-impl<const FAULT: u8> Tested<FAULT> {
-    const BY_STATUS: &'static [[u64; 16]; 2] = &[all_tested::<FAULT>(0), all_tested::<FAULT>(1)];
-}
-
-const fn all_tested<const FAULT: u8>(status: u64) -> [u64; 16] {
-    let mut all = [0; 16];
-    let mut stage = 0;
-    while stage < 16 {
-        all[stage] = tested::<FAULT>(stage, status);
-        stage += 1;
-    }
-    all
-}
-
-/// All bits, one of which is wrong, for a stage above 10 or one that the other status goes with.
-const fn tested<const FAULT: u8>(stage: usize, status: u64) -> u64 {
-    let mut tested = 0xFF00_F8F0;
-    match stage {
-        3 | 9 | 10 if status == 0 => tested |= HAVE,
-        4 | 5 | 8 if status == 1 => tested |= HAVE,
-        0 | 1 | 2 | 6 | 7 => {}
-        _ => return !0,
-    }
-    if !matches!(stage, 1..=3) {
-        tested |= NOTE;
-    }
-    if !matches!(stage, 7..=10) {
-        tested |= MARKED_FULL;
-    }
-    if !(matches!(stage, 2..=5) || FAULT == 9 && stage == 6) {
-        tested |= MARKED_EMPTY;
-    }
-    tested
+pub fn sound<const FAULT: u8>(image: &[u8]) -> Result<(Envelope, &[[u8; 8]]), Refusal> {
+    let (envelope, records) = parts(image, MOST_SIZE)?;
+    walk::<FAULT>(envelope, records).verdict()?;
+    Ok((envelope, records))
 }
 
 /// Whether no event of the codes 2 to 7 is possible on a sound image: the envelope and requests are

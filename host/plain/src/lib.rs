@@ -1,12 +1,13 @@
 //! The ring of processes with one envelope, a second time: plain Rust written from document 01
-//! alone, and the load and the tape of no events from document 02.
+//! alone, and the load, the tape of no events and the survey from document 02.
 //!
 //! It is the other side of the differential tests, the baseline of the benchmark, and says what
 //! ringrun must print for its samples. It shares nothing with the proved library, has no `unsafe`, and
 //! works in place on the lent bytes, without a heap but for ringrun's text. One module an idea:
 //!
 //! - `answer`: refusals ("Where a call is turned down") and the result slice ("The tape"),
-//! - `image`: the bits of an image, soundness, the fresh ring, stopped ("The image", "Stopped"),
+//! - `image`: the bits of an image, its parts, the fresh ring, stopped ("The image", "Stopped"),
+//! - `walk`: the one walk over an image's records, soundness, flags and marks (document 02, A.3),
 //! - `event`: one event, tested and performed ("The eight events"),
 //! - `put`: what put does (event 7),
 //! - `tape`: the blocks, their check and test, writer and reader ("The tape"),
@@ -29,12 +30,13 @@ mod put;
 mod report;
 mod run;
 mod tape;
+mod walk;
 
 use answer::{answer, Refusal, LEAST_RESULT, OUTPUT_TOO_SHORT};
 use image::Ring;
 
 /// The planted faults, from 1 on, in their order.
-pub const FAULTS: [&str; 20] = [
+pub const FAULTS: [&str; 23] = [
     "the right of the last of 37 processes is process 1",
     "an absorbed request does not set 'asked itself'",
     "put clears after it has forwarded",
@@ -55,11 +57,10 @@ pub const FAULTS: [&str; 20] = [
     "a tape or list of no bytes is refused",
     "the last block may have count 0",
     "a run of no events clears the ledger's first byte",
+    "a survey's sets have process 0 as their highest digit",
+    "a survey counts arriving flags in sound images only",
+    "a survey takes 65 processes for a ring",
 ];
-
-/// No fault, but another way to count the marks: in two sets, as document 01 names the form. The benchmark has it as a
-/// second baseline.
-pub const SETS: u8 = 255;
 
 /// Step: performs one event. The result gets the outcome and its message.
 pub fn ring_step<const FAULT: u8>(image: &mut [u8], event: &[u8], result: &mut [u8]) -> u64 {
@@ -67,6 +68,8 @@ pub fn ring_step<const FAULT: u8>(image: &mut [u8], event: &[u8], result: &mut [
     answer::<FAULT>(result, done)
 }
 
+/// Inlined where it is called, or its answer goes through memory: 30 of some 250 instructions.
+#[inline(always)]
 fn step<const FAULT: u8>(image: &mut [u8], event: &[u8], result: usize) -> Result<[u64; 8], Refusal> {
     let mut ring = Ring::sound::<FAULT>(image)?;
     let event = event::single(ring.envelope.size(), event)?;
@@ -105,6 +108,23 @@ fn stopped<const FAULT: u8>(image: &[u8], result: usize) -> Result<[u64; 8], Ref
     room_for_result(result)?;
     let yes = u64::from(image::stopped::<FAULT>(records));
     Ok([yes, 0, 0, 0, 0, 0, 0, 0])
+}
+
+/// Survey: what the walk over the records of an image finds, sound or not. The result gets the number and the place of
+/// the refusal that step, run and stopped have for the image, 0 and 0 if it is sound; then flags and both sets.
+pub fn ring_survey<const FAULT: u8>(image: &[u8], result: &mut [u8]) -> u64 {
+    let done = survey::<FAULT>(image, result.len());
+    answer::<FAULT>(result, done)
+}
+
+fn survey<const FAULT: u8>(image: &[u8], result: usize) -> Result<[u64; 8], Refusal> {
+    let most = if FAULT == 23 { 65 } else { image::MOST_SIZE };
+    let (envelope, records) = image::parts(image, most)?;
+    room_for_result(result)?;
+    let found = walk::walk::<FAULT>(envelope, records);
+    let verdict = found.verdict().err().unwrap_or(Refusal { number: 0, place: 0 });
+    let digits = |set: u64| if FAULT == 21 { set.reverse_bits() >> (64 - records.len()) } else { set };
+    Ok([verdict.number, verdict.place, found.flags, digits(found.full), digits(found.empty), 0, 0, 0])
 }
 
 /// Fresh ring: zeros, then N and the home's have flag. The result gets zeros.

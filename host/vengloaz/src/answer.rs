@@ -1,6 +1,8 @@
-//! What a call answers when it isn't refused: a step's outcome, a run's counts.
+//! What a call answers when it isn't refused: a step's outcome, a run's counts, a survey's findings.
 
 use std::fmt;
+
+use crate::Refusal;
 
 /// What an event did.
 #[derive(Clone, Copy, Debug, PartialEq, Eq, Hash)]
@@ -104,5 +106,27 @@ impl fmt::Display for Counts {
     fn fmt(&self, out: &mut fmt::Formatter<'_>) -> fmt::Result {
         let Counts { puts, gets, fills, takes, sent, got, idle, records: _ } = self;
         write!(out, "puts {puts} gets {gets} fills {fills} takes {takes} sent {sent} got {got} idle {idle}")
+    }
+}
+
+/// What one walk over the records of an image finds, sound or not.
+///
+/// Flags and sets are those of the bytes as they stand, in whatever stage a process is and whatever the header counts.
+#[derive(Clone, Copy, Debug, PartialEq, Eq, Hash)]
+pub struct Findings {
+    /// Nothing if the image is sound, else what step, run and stopped refuse it with.
+    pub verdict: Result<(), Refusal>,
+    /// How many have and arriving flags are set, both together, 0 to 128; 1 in a sound image.
+    pub flags: u32,
+    /// The processes marked for full: bit i is process i.
+    pub full: u64,
+    /// The processes marked for empty: bit i is process i.
+    pub empty: u64,
+}
+
+impl Findings {
+    /// Whether the image is sound: step, run and stopped accept it.
+    pub const fn is_sound(&self) -> bool {
+        self.verdict.is_ok()
     }
 }

@@ -1,7 +1,7 @@
 //! The calls of the reference, with types.
 
 use crate::result_slice::ResultSlice;
-use crate::{raw, Counts, Event, Outcome, Refusal};
+use crate::{raw, Counts, Event, Findings, Outcome, Refusal};
 
 /// The bytes of a block, and of the events that it has room for.
 const BLOCK: usize = 512;
@@ -128,6 +128,38 @@ pub fn run(image: &mut [u8], tape: &[u8], ledger: &mut [u8]) -> Result<Counts, R
 /// ```
 pub fn stopped(image: &[u8]) -> Result<bool, Refusal> {
     Ok(ResultSlice::of(|result| raw::ring_stopped(image, result))?.word(0) != 0)
+}
+
+/// Tells what one walk over an image's records finds, whether the image is sound or not: the verdict of step, run and
+/// stopped on it, how many have and arriving flags are set, and which processes are marked for full and for empty.
+///
+/// # Errors
+///
+/// [`Refusal::ImageShort`], or [`Refusal::ImageUnsound`] where byte 0, N, isn't 2 to 64. Any other image that isn't
+/// sound is answered, with [`Findings::verdict`] as the refusal.
+///
+/// # Examples
+///
+/// ```
+/// use vengloaz::{fresh, step, survey, Event, Refusal};
+///
+/// let mut image = fresh(2, 0)?;
+/// for event in [Event::get(0), Event::new(0, 3), Event::new(0, 7)] {
+///     step(&mut image, event)?;
+///     survey(&image)?.verdict?; // sound after every event
+/// }
+/// let found = survey(&image)?;
+/// assert_eq!((found.flags, found.full, found.empty), (1, 0b01, 0)); // process 0 waits for full, and is marked
+///
+/// image[16 + 8 + 1] = 1; // process 1 has the envelope, too
+/// let found = survey(&image)?;
+/// assert_eq!(found.verdict, Err(Refusal::ImageUnsound));
+/// assert!(!found.is_sound() && found.flags == 2);
+/// assert_eq!(survey(&image[..31]), Err(Refusal::ImageShort));
+/// # Ok::<(), Refusal>(())
+/// ```
+pub fn survey(image: &[u8]) -> Result<Findings, Refusal> {
+    Ok(ResultSlice::of(|result| raw::ring_survey(image, result))?.findings())
 }
 
 /// The tape of a list of events for a ring of `n` processes: 512 bytes for each 63 events or part of them, and no bytes

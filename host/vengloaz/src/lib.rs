@@ -2,10 +2,11 @@
 //!
 //! The package calls a proved library and adds nothing to it but types: [`fresh`] makes the image of a
 //! fresh ring, [`step`] performs one event on an image, [`run`] performs a tape of them and writes a
-//! ledger, [`stopped`] tells whether the ring can still move by itself, [`write()`] makes a tape of a list
-//! of events, [`read`] the list of a tape, and [`load`] a tape of events drawn from a seed. An image, a tape
-//! and a ledger are bytes, laid out as `docs/FORMATS.md` of the repository says. Every call answers with a
-//! result or a [`Refusal`], for all bytes; a refused call leaves every byte lent to it as it was.
+//! ledger, [`stopped`] tells whether the ring can still move by itself, [`survey`] what an image holds,
+//! sound or not, [`write()`] makes a tape of a list of events, [`read`] the list of a tape, and [`load`] a
+//! tape of events drawn from a seed. An image, a tape and a ledger are bytes, laid out as `docs/FORMATS.md`
+//! of the repository says. Every call answers with a result or a [`Refusal`], for all bytes; a refused call
+//! leaves every byte lent to it as it was.
 //!
 //! # A core's ledger held against the reference's
 //!
@@ -46,8 +47,8 @@
 //! # Building
 //!
 //! The proved library is two archives: `libring_host.a` has step, run and stopped, `libring_tools.a`
-//! fresh ring, writer, reader and load. `make archives` in the repository's root proves and makes both, in
-//! `target/staticlib`, where the build script looks for them. If they lie elsewhere, the environment
+//! fresh ring, survey, writer, reader and load. `make archives` in the repository's root proves and makes both,
+//! in `target/staticlib`, where the build script looks for them. If they lie elsewhere, the environment
 //! variable `RING_HOST_DIR` names their directory; a relative one counts from the repository's `host/`,
 //! wherever cargo is started. An archive that is older than the crates' sources is an error.
 //!
@@ -69,9 +70,9 @@ mod refusal;
 #[cfg(any(feature = "proved", doc))]
 mod result_slice;
 
-pub use answer::{Counts, Outcome};
+pub use answer::{Counts, Findings, Outcome};
 #[cfg(any(feature = "proved", doc))]
-pub use calls::{fresh, load, read, run, step, stopped, write};
+pub use calls::{fresh, load, read, run, step, stopped, survey, write};
 pub use event::{Event, ParseEventError};
 pub use ledger::{first_difference, records, Difference, Record, Records};
 pub use refusal::Refusal;

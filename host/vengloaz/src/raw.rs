@@ -2,9 +2,10 @@
 //!
 //! What is returned is the refusal's number, and 0 if there is none. A result slice of at least 80 bytes gets ten
 //! 64-bit little-endian words at its start: outcome and message of a step, the eight counts of a run, 1 or 0 for a ring
-//! that is stopped or isn't, the bytes that the writer, the reader or the load filled, or the place of a refusal, and 0
-//! in the words behind. In a shorter one nothing is written, and a call that is not refused otherwise is then refused
-//! with 10. The calls of the crate itself say the same with types; `include/vengloaz.h` declares the functions for C.
+//! that is stopped or isn't, the findings of a survey, the bytes that the writer, the reader or the load filled, or the
+//! place of a refusal, and 0 in the words behind. In a shorter one nothing is written, and a call that is not refused
+//! otherwise is then refused with 10. The calls of the crate itself say the same with types; `include/vengloaz.h`
+//! declares the functions for C.
 //!
 //! This is the one module of the package with `unsafe`. It is sound because a slice passes as its own pointer and
 //! length, because the borrows keep the slices of a call apart and alive until it returns, and because the functions,
@@ -35,6 +36,8 @@ mod exported {
         ) -> u64;
 
         pub fn ring_stopped(image: *const u8, image_len: usize, result: *mut u8, result_len: usize) -> u64;
+
+        pub fn ring_survey(image: *const u8, image_len: usize, result: *mut u8, result_len: usize) -> u64;
 
         pub fn ring_fresh(
             n: u64,
@@ -149,6 +152,30 @@ pub fn ring_run(image: &mut [u8], tape: &[u8], ledger: &mut [u8], result: &mut [
 pub fn ring_stopped(image: &[u8], result: &mut [u8]) -> u64 {
     // SAFETY: see the module's comment.
     unsafe { exported::ring_stopped(image.as_ptr(), image.len(), result.as_mut_ptr(), result.len()) }
+}
+
+/// Tells what one walk over an image's records finds, whether the image is sound or not. Result words: the number and
+/// the place of the refusal that step, run and stopped have for it, 0 and 0 where it is sound; how many have and
+/// arriving flags are set; the processes marked for full, then those marked for empty, each a number whose bit i is
+/// process i. On a refusal, for the length or byte 0 alone, the place, which is 0.
+///
+/// ```
+/// use vengloaz::{fresh, raw};
+///
+/// let mut image = fresh(3, 0)?;
+/// image[16 + 8 * 2 + 1] = 3; // process 2: have and arriving, beside the flag of process 0
+/// image[16 + 8 * 2 + 2] = 16; // marked for full, idle as it is
+/// let mut result = [0xff; 80];
+/// assert_eq!(raw::ring_survey(&image, &mut result), 0);
+/// assert_eq!(result[0], 4); // not sound
+/// assert_eq!(result[16], 3); // flags
+/// assert_eq!((result[24], result[32]), (4, 0)); // process 2 is marked for full, nobody for empty
+/// assert_eq!(raw::ring_survey(&image[..39], &mut result), 3);
+/// # Ok::<(), vengloaz::Refusal>(())
+/// ```
+pub fn ring_survey(image: &[u8], result: &mut [u8]) -> u64 {
+    // SAFETY: see the module's comment.
+    unsafe { exported::ring_survey(image.as_ptr(), image.len(), result.as_mut_ptr(), result.len()) }
 }
 
 /// Writes the fresh ring of N processes, with the envelope at process home, to the start of an image buffer. Result

@@ -1,6 +1,6 @@
 //! The result slice that the library's functions fill, read: what it tells as values.
 
-use crate::{Counts, Outcome, Refusal};
+use crate::{Counts, Findings, Outcome, Refusal};
 
 /// The bytes of a result slice.
 const LENGTH: usize = 80;
@@ -14,7 +14,7 @@ impl ResultSlice {
         let mut result = ResultSlice([0; LENGTH]);
         match call(&mut result.0) {
             0 => Ok(result),
-            number => Err(result.refusal(number)),
+            number => Err(refusal(number, result.word(0))),
         }
     }
 
@@ -46,9 +46,17 @@ impl ResultSlice {
         }
     }
 
-    /// The refusal of this number, with the place that is told.
-    fn refusal(&self, number: u64) -> Refusal {
-        Refusal::from_number(number, self.word(0))
-            .unwrap_or_else(|| unreachable!("the calls' contracts have no refusal {number}"))
+    /// The findings that a survey tells.
+    pub(crate) fn findings(&self) -> Findings {
+        let verdict = match self.word(0) {
+            0 => Ok(()),
+            number => Err(refusal(number, self.word(1))),
+        };
+        Findings { verdict, flags: self.word(2) as u32, full: self.word(3), empty: self.word(4) }
     }
+}
+
+/// The refusal of a number and a place that a call gave.
+fn refusal(number: u64, place: u64) -> Refusal {
+    Refusal::from_number(number, place).unwrap_or_else(|| unreachable!("the calls' contracts have no refusal {number}"))
 }

@@ -18,8 +18,8 @@ use Rattle.machine.specs.Run.{ledgerRecord, ledgerEntry, ledgerFrom, cou
 use Rattle.machine.specs.Balance.{filledFrom, takenFrom, totalsFrom}
 use Rattle.machine.specs.Tape.{eventIn, eventsIn, words, checkFrom, covered, usedSlots, listOf, blockBytes}
 use Rattle.machine.specs.Tape.{listBytes, slotsFor, padded, blockFor, tapeOf}
-use Rattle.machine.specs.Refusals.{first, sizeVerdict, homeVerdict, roomVerdict, imageVerdict, eventFits}
-use Rattle.machine.specs.Refusals.{eventVerdict, lengthVerdict, listVerdict}
+use Rattle.machine.specs.Refusals.{first, sizeVerdict, homeVerdict, roomVerdict, frontVerdict, soundVerdict}
+use Rattle.machine.specs.Refusals.{imageVerdict, eventFits, eventVerdict, lengthVerdict, listVerdict}
 use Rattle.machine.specs.Refusals.{checkVerdict, blockFits, numberVerdict, usedVerdict, unusedVerdict}
 use Rattle.machine.specs.Refusals.{blockVerdict, tapeVerdict, outputVerdict, countVerdict, seedVerdict}
 use Rattle.machine.specs.Answers.{freshVerdict, freshAnswer, freshImage, stepVerdict, stepAnswer, stepImage}
@@ -28,6 +28,7 @@ use Rattle.machine.specs.Answers.{runEvents, runRecords, runVerdict, run
 use Rattle.machine.specs.Answers.{writeVerdict, writeAnswer, writeOutput, readVerdict, readAnswer, readOutput}
 use Rattle.machine.specs.Load.{drawn, eventBy, loadEvent, loadEvents, loadTape}
 use Rattle.machine.specs.Load.{loadVerdict, loadAnswer, loadOutput}
+use Rattle.machine.specs.Survey.{surveyAnswer}
 use Rattle.machine.specs.Host.{returned, wordsOf, resultBytes, resultAfter, lentWith}
 use Rattle.machine.specs.Text.{text, digits, decimal, line}
 use Rattle.machine.specs.Report.{recordLine, recordLines, countsLine, lastLine, refusalLine, fewVerdict}
@@ -71,7 +72,8 @@ unfolding eventIn eventsIn words checkFrom covered usedSlots listOf blockBytes s
 ofTape = true
 
 unfoldable pub ofTests : Bool
-unfolding first sizeVerdict homeVerdict roomVerdict imageVerdict eventFits eventVerdict lengthVerdict listVerdict
+unfolding first sizeVerdict homeVerdict roomVerdict frontVerdict soundVerdict imageVerdict eventFits eventVerdict
+    lengthVerdict listVerdict
 ofTests = true
 
 unfoldable pub ofBlocks : Bool
@@ -79,7 +81,7 @@ unfolding ofTests checkVerdict blockFits numberVerdict usedVerdict unusedVerdict
 ofBlocks = true
 
 unfoldable pub ofImageCalls : Bool
-unfolding freshVerdict freshAnswer freshImage stepVerdict stepAnswer stepImage stoppedAnswer
+unfolding freshVerdict freshAnswer freshImage stepVerdict stepAnswer stepImage stoppedAnswer surveyAnswer
 ofImageCalls = true
 
 unfoldable pub ofRunCall : Bool

@@ -17,7 +17,8 @@ use Rattle.machine.specs.Image.{sizeIn}
 use Rattle.machine.specs.Sound.{sound}
 use Rattle.machine.specs.Bytes.{number, zeros}
 use Rattle.machine.specs.Tape.{eventIn}
-use Rattle.machine.specs.Refusals.{numberOf, unless, orElse, sizeVerdict, homeVerdict, roomVerdict, imageVerdict}
+use Rattle.machine.specs.Refusals.{numberOf, unless, orElse, sizeVerdict, homeVerdict, roomVerdict}
+use Rattle.machine.specs.Refusals.{frontVerdict, soundVerdict, imageVerdict}
 use Rattle.machine.specs.Refusals.{codes, eventFits, eventVerdict, outputVerdict}
 use Rattle.machine.specs.Answers.{freshVerdict}
 use Rattle.machine.proofs.Laws.Bytes.{zeros-number}
@@ -130,6 +131,24 @@ fresh-fine n home s e =
       room = unless-le (imageLength n) (length s) refusal.Short (second-fine b c later);
     }
 
+pub record FrontFine (s : List ℕ) : Type 0 where
+  pub header : 16 ≤ length s
+  pub size : SizeFits (sizeIn s)
+  pub room : imageLength (sizeIn s) ≤ length s
+
+pub front-fine : (s : List ℕ) → frontVerdict s ≡ Fine → FrontFine s
+unfolding frontVerdict roomVerdict
+front-fine s e =
+    let a = unless (leb 16 (length s)) refusal.Short in
+    let b = unless (sizeFits (sizeIn s)) refusal.Unsound in
+    let c = roomVerdict (sizeIn s) s in
+    let later = second-fine a (orElse b c) e in
+    record {
+      header = unless-le 16 (length s) refusal.Short (first-fine a (orElse b c) e);
+      size = unless-size (sizeIn s) refusal.Unsound (first-fine b c later);
+      room = unless-le (imageLength (sizeIn s)) (length s) refusal.Short (second-fine b c later);
+    }
+
 pub record ImageFine (s : List ℕ) : Type 0 where
   pub header : 16 ≤ length s
   pub size : SizeFits (sizeIn s)
@@ -137,19 +156,14 @@ pub record ImageFine (s : List ℕ) : Type 0 where
   pub fits : sound s ≡ true
 
 pub image-fine : (s : List ℕ) → imageVerdict s ≡ Fine → ImageFine s
-unfolding imageVerdict roomVerdict
+unfolding imageVerdict soundVerdict
 image-fine s e =
-    let a = unless (leb 16 (length s)) refusal.Short in
-    let b = unless (sizeFits (sizeIn s)) refusal.Unsound in
-    let c = roomVerdict (sizeIn s) s in
-    let d = unless (sound s) refusal.Unsound in
-    let from-b = second-fine a (orElse b (orElse c d)) e in
-    let from-c = second-fine b (orElse c d) from-b in
+    let front = front-fine s (first-fine (frontVerdict s) (soundVerdict s) e) in
     record {
-      header = unless-le 16 (length s) refusal.Short (first-fine a (orElse b (orElse c d)) e);
-      size = unless-size (sizeIn s) refusal.Unsound (first-fine b (orElse c d) from-b);
-      room = unless-le (imageLength (sizeIn s)) (length s) refusal.Short (first-fine c d from-c);
-      fits = unless-fine (sound s) refusal.Unsound (second-fine c d from-c);
+      header = front .header;
+      size = front .size;
+      room = front .room;
+      fits = unless-fine (sound s) refusal.Unsound (second-fine (frontVerdict s) (soundVerdict s) e);
     }
 
 -- an event that fits is at a process of the ring
@@ -201,32 +215,36 @@ event-below n s e = fits-process codes n s 0 (accepted-fits n s e)
 -- ---- each way through the tests of an image
 
 module _ (s : List ℕ) where
-  pub image-under-16 : length s < 16 → imageVerdict s ≡ Refused refusal.Short
-  unfolding imageVerdict
-  image-under-16 h = rw (lt-leb 16 (length s) h)
+  pub front-under-16 : length s < 16 → frontVerdict s ≡ Refused refusal.Short
+  unfolding frontVerdict
+  front-under-16 h = rw (lt-leb 16 (length s) h)
 
-  pub image-too-few : 16 ≤ length s → sizeIn s < 2 → imageVerdict s ≡ Refused refusal.Unsound
-  unfolding imageVerdict
-  image-too-few h few = rw (le-leb 16 (length s) h, lt-leb 2 (sizeIn s) few)
+  pub front-too-few : 16 ≤ length s → sizeIn s < 2 → frontVerdict s ≡ Refused refusal.Unsound
+  unfolding frontVerdict
+  front-too-few h few = rw (le-leb 16 (length s) h, lt-leb 2 (sizeIn s) few)
 
-  pub image-too-many : 16 ≤ length s → 2 ≤ sizeIn s → 64 < sizeIn s → imageVerdict s ≡ Refused refusal.Unsound
-  unfolding imageVerdict
-  image-too-many h low many = rw (le-leb 16 (length s) h, le-leb 2 (sizeIn s) low, lt-leb (sizeIn s) 64 many)
+  pub front-too-many : 16 ≤ length s → 2 ≤ sizeIn s → 64 < sizeIn s → frontVerdict s ≡ Refused refusal.Unsound
+  unfolding frontVerdict
+  front-too-many h low many = rw (le-leb 16 (length s) h, le-leb 2 (sizeIn s) low, lt-leb (sizeIn s) 64 many)
 
-  pub image-short : 16 ≤ length s → SizeFits (sizeIn s) → length s < imageLength (sizeIn s)
-      → imageVerdict s ≡ Refused refusal.Short
-  unfolding imageVerdict roomVerdict
-  image-short h size short = rw (
+  pub front-short : 16 ≤ length s → SizeFits (sizeIn s) → length s < imageLength (sizeIn s)
+      → frontVerdict s ≡ Refused refusal.Short
+  unfolding frontVerdict roomVerdict
+  front-short h size short = rw (
     le-leb 16 (length s) h,
     fits-size (sizeIn s) size,
     lt-leb (imageLength (sizeIn s)) (length s) short,
   )
 
+  pub front-whole : 16 ≤ length s → SizeFits (sizeIn s) → imageLength (sizeIn s) ≤ length s → frontVerdict s ≡ Fine
+  unfolding frontVerdict roomVerdict
+  front-whole h size room =
+      rw (le-leb 16 (length s) h, fits-size (sizeIn s) size, le-leb (imageLength (sizeIn s)) (length s) room)
+
   pub image-whole : 16 ≤ length s → SizeFits (sizeIn s) → imageLength (sizeIn s) ≤ length s
       → imageVerdict s ≡ unless (sound s) refusal.Unsound
-  unfolding imageVerdict roomVerdict
-  image-whole h size room =
-      rw (le-leb 16 (length s) h, fits-size (sizeIn s) size, le-leb (imageLength (sizeIn s)) (length s) room)
+  unfolding imageVerdict soundVerdict
+  image-whole h size room = rw (front-whole h size room)
 
 -- ---- each way through the tests of a fresh ring
 

@@ -1,12 +1,12 @@
-//! Steps and stopped, at 2, 8 and 64 processes.
+//! Steps, stopped and survey, at 2, 8 and 64 processes.
 //!
-//! Steps go through a long guided list on one image that changes as they go. Stopped is asked about
-//! moving and stopped images by turns.
+//! Steps go through a long guided list on one image that changes as they go. Stopped and survey are
+//! asked about the same images, moving and stopped ones by turns, all of them sound.
 
 use crate::same::same;
 use crate::table::{Table, Unit};
 use crate::timing::{by_turns, Effort, Spent};
-use compare::calls::{Calls, PLAIN, SETS};
+use compare::calls::{Calls, Look};
 use compare::used::used_image;
 use guide::Random;
 use std::hint::black_box;
@@ -14,7 +14,18 @@ use std::hint::black_box;
 const SIZES: [u64; 3] = [2, 8, 64];
 const STEPS: usize = 65_536;
 const IMAGES: usize = 64;
-const BESIDE_SETS: &str = "beside plain with sets";
+
+/// A call that looks at an image: its name, a remark on its lines, and the call of a side.
+struct Kind {
+    name: &'static str,
+    remark: &'static str,
+    of: fn(&Calls) -> Look,
+}
+
+const LOOKS: [Kind; 2] = [
+    Kind { name: "stopped", remark: "half of the images stopped", of: |side| side.stopped },
+    Kind { name: "survey", remark: "the same images, all sound", of: |side| side.survey },
+];
 
 pub fn measure(table: &mut Table, effort: Effort) {
     for n in SIZES {
@@ -23,10 +34,12 @@ pub fn measure(table: &mut Table, effort: Effort) {
             measure_step(table, effort, n, &name);
         }
     }
-    for n in SIZES {
-        let name = format!("stopped {n}");
-        if table.wants(&name) {
-            measure_stopped(table, effort, n, &name);
+    for kind in LOOKS {
+        for n in SIZES {
+            let name = format!("{} {n}", kind.name);
+            if table.wants(&name) {
+                measure_look(table, effort, n, &name, &kind);
+            }
         }
     }
 }
@@ -38,18 +51,15 @@ fn measure_step(table: &mut Table, effort: Effort, n: u64, name: &str) {
     same("steps", |side| all_steps_seen(side, &start, &list));
     let mut image = start.clone();
     let mut result = [0; 80];
-    let mut taken = |base: &Calls| {
-        by_turns(effort.rounds, effort.least, base, |side, spent: &mut Spent| {
-            image.copy_from_slice(&start);
-            spent.on(STEPS, || {
-                for event in list.chunks_exact(8) {
-                    black_box((side.step)(black_box(&mut image), black_box(event), black_box(&mut result)));
-                }
-            });
-        })
-    };
-    table.line(name, Unit::Call, taken(&PLAIN), "a guided list");
-    table.aside(Unit::Call, taken(&SETS), BESIDE_SETS);
+    let taken = by_turns(effort.rounds, effort.least, |side, spent: &mut Spent| {
+        image.copy_from_slice(&start);
+        spent.on(STEPS, || {
+            for event in list.chunks_exact(8) {
+                black_box((side.step)(black_box(&mut image), black_box(event), black_box(&mut result)));
+            }
+        });
+    });
+    table.line(name, Unit::Call, taken, "a guided list");
 }
 
 /// Every answer, and a sum of the images in between.
@@ -68,26 +78,24 @@ fn all_steps_seen(side: &Calls, start: &[u8], list: &[u8]) -> (Vec<u8>, Vec<u8>,
     (image, answers, images)
 }
 
-fn measure_stopped(table: &mut Table, effort: Effort, n: u64, name: &str) {
+fn measure_look(table: &mut Table, effort: Effort, n: u64, name: &str, kind: &Kind) {
     let images = moving_and_stopped(n);
     for image in &images {
-        same("stopped", |side| {
+        same(name, |side| {
             let mut result = [0xA5; 80];
-            ((side.stopped)(image, &mut result), result)
+            ((kind.of)(side)(image, &mut result), result)
         });
     }
     let mut result = [0; 80];
-    let mut taken = |base: &Calls| {
-        by_turns(effort.rounds, effort.least, base, |side, spent: &mut Spent| {
-            spent.on(images.len(), || {
-                for image in &images {
-                    black_box((side.stopped)(black_box(image), black_box(&mut result)));
-                }
-            });
-        })
-    };
-    table.line(name, Unit::Call, taken(&PLAIN), "half of the images stopped");
-    table.aside(Unit::Call, taken(&SETS), BESIDE_SETS);
+    let taken = by_turns(effort.rounds, effort.least, |side, spent: &mut Spent| {
+        let call = (kind.of)(side);
+        spent.on(images.len(), || {
+            for image in &images {
+                black_box(call(black_box(image), black_box(&mut result)));
+            }
+        });
+    });
+    table.line(name, Unit::Call, taken, kind.remark);
 }
 
 /// Moving images, met by a guided list, and stopped ones, by turns.

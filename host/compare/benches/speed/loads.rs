@@ -3,7 +3,6 @@
 use crate::same::same;
 use crate::table::{Table, Unit};
 use crate::timing::{by_turns, Effort, Spent};
-use compare::calls::PLAIN;
 use std::hint::black_box;
 
 const SIZES: [u64; 2] = [8, 64];
@@ -30,7 +29,7 @@ fn measure_load(table: &mut Table, effort: Effort, n: u64, blocks: usize, name: 
     });
     let mut result = [0; 80];
     let rounds = if blocks == 64 { effort.rounds } else { effort.long_rounds };
-    let taken = by_turns(rounds, effort.least, &PLAIN, |side, spent: &mut Spent| {
+    let taken = by_turns(rounds, effort.least, |side, spent: &mut Spent| {
         let seed = 1 + spent.units as u64;
         spent.on(events, || {
             black_box((side.load)(n, black_box(seed), events as u64, black_box(&mut tape), &mut result));

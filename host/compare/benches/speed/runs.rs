@@ -8,7 +8,7 @@
 use crate::same::same;
 use crate::table::{Table, Unit};
 use crate::timing::{by_turns, Effort, Medians, Spent};
-use compare::calls::{Calls, PLAIN};
+use compare::calls::Calls;
 use compare::used::used_image;
 use guide::Random;
 use std::hint::black_box;
@@ -115,7 +115,7 @@ impl Pool {
 
     fn timed(&mut self, effort: Effort, exact: bool) -> Medians {
         let rounds = if self.tapes.len() == 1 { effort.long_rounds } else { effort.rounds };
-        by_turns(rounds, effort.least, &PLAIN, |side, spent| self.pass(side, exact, spent))
+        by_turns(rounds, effort.least, |side, spent| self.pass(side, exact, spent))
     }
 
     /// Runs each tape of the pool once.

@@ -34,13 +34,14 @@ impl Table {
 
     /// Prints a line, with a remark.
     pub fn line(&mut self, name: &str, unit: Unit, taken: Medians, remark: &str) {
-        print(name, unit, taken, remark);
-        self.ratios.push((name.to_string(), taken.ratio));
-    }
-
-    /// Prints the line before once more beside another baseline; it doesn't count in the mean.
-    pub fn aside(&self, unit: Unit, taken: Medians, remark: &str) {
-        print("  ..", unit, taken, remark);
+        let ratio = taken.ratio;
+        let (unit, rattle, plain) = match unit {
+            Unit::Event => ("ns/event", taken.rattle, taken.plain),
+            Unit::Call => ("ns/call", taken.rattle, taken.plain),
+            Unit::Byte => ("GB/s", 1.0 / taken.rattle, 1.0 / taken.plain),
+        };
+        println!("{name:<36} {unit:>10} {rattle:>10.2} {plain:>10.2} {ratio:>8.2}  {remark}");
+        self.ratios.push((name.to_string(), ratio));
     }
 
     /// Keeps what one event took with 64 and with 65,536 blocks for the end.
@@ -76,14 +77,4 @@ impl Table {
         let lines = if kind.is_empty() { "lines".to_string() } else { format!("{kind} lines") };
         println!("{} {lines}: ratio {mean:.2} in the geometric mean, {least:.2} at least", ratios.len());
     }
-}
-
-fn print(name: &str, unit: Unit, taken: Medians, remark: &str) {
-    let ratio = taken.ratio;
-    let (unit, rattle, plain) = match unit {
-        Unit::Event => ("ns/event", taken.rattle, taken.plain),
-        Unit::Call => ("ns/call", taken.rattle, taken.plain),
-        Unit::Byte => ("GB/s", 1.0 / taken.rattle, 1.0 / taken.plain),
-    };
-    println!("{name:<36} {unit:>10} {rattle:>10.2} {plain:>10.2} {ratio:>8.2}  {remark}");
 }

@@ -3,7 +3,6 @@
 use crate::same::same;
 use crate::table::{Table, Unit};
 use crate::timing::{by_turns, Effort, Spent};
-use compare::calls::PLAIN;
 use guide::Random;
 use std::hint::black_box;
 
@@ -31,7 +30,7 @@ fn measure_test(table: &mut Table, effort: Effort, blocks: usize, name: &str) {
         ((side.run)(&mut image, &tape, &mut ledger, &mut result), result)
     });
     assert_eq!((number, &result_seen[..8]), (7, &(blocks as u64 - 1).to_le_bytes()[..]));
-    let taken = by_turns(effort.rounds, effort.least, &PLAIN, |side, spent: &mut Spent| {
+    let taken = by_turns(effort.rounds, effort.least, |side, spent: &mut Spent| {
         spent.on(tape.len(), || {
             black_box((side.run)(&mut image, black_box(&tape), &mut ledger, &mut result));
         });

@@ -1,6 +1,6 @@
 //! Rounds of timed calls, the two sides by turns, and their medians.
 
-use compare::calls::{Calls, PROVED};
+use compare::calls::{Calls, PLAIN, PROVED};
 use std::time::{Duration, Instant};
 
 /// How long to look.
@@ -39,7 +39,7 @@ impl Spent {
     }
 }
 
-/// What Rattle and a baseline took for a unit, in nanoseconds, and the baseline over Rattle turn by turn: medians all.
+/// What Rattle and plain took for a unit, in nanoseconds, and plain over Rattle turn by turn: medians all.
 #[derive(Clone, Copy)]
 pub struct Medians {
     pub rattle: f64,
@@ -47,9 +47,8 @@ pub struct Medians {
     pub ratio: f64,
 }
 
-/// Times passes of Rattle and of a baseline by turns: each round repeats the pass of a side until the least time is
-/// spent.
-pub fn by_turns(rounds: usize, least: Duration, base: &Calls, mut pass: impl FnMut(&Calls, &mut Spent)) -> Medians {
+/// Times passes of Rattle and of plain by turns: each round repeats the pass of a side until the least time is spent.
+pub fn by_turns(rounds: usize, least: Duration, mut pass: impl FnMut(&Calls, &mut Spent)) -> Medians {
     let mut round = |side: &Calls| {
         let mut spent = Spent::default();
         while spent.units == 0 || spent.time < least {
@@ -61,9 +60,9 @@ pub fn by_turns(rounds: usize, least: Duration, base: &Calls, mut pass: impl FnM
     for turn in 0..rounds {
         if turn % 2 == 0 {
             rattle.push(round(&PROVED));
-            plain.push(round(base));
+            plain.push(round(&PLAIN));
         } else {
-            plain.push(round(base));
+            plain.push(round(&PLAIN));
             rattle.push(round(&PROVED));
         }
     }

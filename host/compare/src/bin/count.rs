@@ -1,8 +1,8 @@
 //! Calls for callgrind to count: `count SIDE KIND N` makes a call of some thousand events, or some thousand calls, of
-//! one kind on one side, each through `counted_run`, `counted_load`, `counted_step` or `counted_stopped`.
-//! `benches/count` has it run under callgrind and prints what it counted, for an event or a call.
+//! one kind on one side, each through `counted_run`, `counted_load`, `counted_step`, `counted_stopped` or
+//! `counted_survey`. `benches/count` has it run under callgrind and prints what it counted, for an event or a call.
 
-use compare::calls::{Calls, PLAIN, PROVED, SETS};
+use compare::calls::{Calls, PLAIN, PROVED};
 use compare::used::used_image;
 use guide::Random;
 use std::hint::black_box;
@@ -17,7 +17,6 @@ fn main() {
     let side = match side.as_str() {
         "rattle" => &PROVED,
         "plain" => &PLAIN,
-        "sets" => &SETS,
         _ => panic!("no side {side}"),
     };
     let n: u64 = n.parse().expect("a number of processes");
@@ -43,6 +42,7 @@ fn main() {
             list.chunks_exact(8).for_each(|event| counted_step(side, &mut image, event, &mut result));
         }
         "stopped" => (0..CALLS).for_each(|_| counted_stopped(side, &image, &mut result)),
+        "survey" => (0..CALLS).for_each(|_| counted_survey(side, &image, &mut result)),
         _ => panic!("no kind {kind}"),
     }
 }
@@ -69,4 +69,10 @@ fn counted_step(side: &Calls, image: &mut [u8], event: &[u8], result: &mut [u8])
 #[inline(never)]
 fn counted_stopped(side: &Calls, image: &[u8], result: &mut [u8]) {
     assert_eq!((black_box(side).stopped)(image, result), 0);
+}
+
+#[no_mangle]
+#[inline(never)]
+fn counted_survey(side: &Calls, image: &[u8], result: &mut [u8]) {
+    assert_eq!((black_box(side).survey)(image, result), 0);
 }

@@ -28,6 +28,8 @@ pub enum Call {
     },
     /// Stopped.
     Stopped,
+    /// Survey.
+    Survey,
 }
 
 /// A call with the image and the length of the result slice.
@@ -58,6 +60,11 @@ impl Case {
         Case { image, call: Call::Stopped, result }
     }
 
+    /// A survey.
+    pub fn survey(image: Vec<u8>, result: usize) -> Self {
+        Case { image, call: Call::Survey, result }
+    }
+
     /// The length of the ledger.
     pub fn ledger(&self) -> usize {
         match self.call {
@@ -77,6 +84,7 @@ impl compare::case::Case for Case {
             Call::Step { .. } => "step",
             Call::Run { .. } => "run",
             Call::Stopped => "stopped",
+            Call::Survey => "survey",
         }
     }
 
@@ -84,7 +92,7 @@ impl compare::case::Case for Case {
         match &self.call {
             Call::Step { .. } => 1,
             Call::Run { tape, .. } => tape.event_count(),
-            Call::Stopped => 0,
+            Call::Stopped | Call::Survey => 0,
         }
     }
 
@@ -92,7 +100,7 @@ impl compare::case::Case for Case {
         let input = match &self.call {
             Call::Step { event } => event.clone(),
             Call::Run { tape, .. } => tape.bytes(),
-            Call::Stopped => Vec::new(),
+            Call::Stopped | Call::Survey => Vec::new(),
         };
         Loan { image: &self.image, input, output: self.ledger(), result: self.result }
     }
@@ -102,7 +110,13 @@ impl compare::case::Case for Case {
             Call::Step { .. } => (side.step)(image, input, result),
             Call::Run { .. } => (side.run)(image, input, output, result),
             Call::Stopped => (side.stopped)(image, result),
+            Call::Survey => (side.survey)(image, result),
         }
+    }
+
+    /// Every image that another call gets is surveyed, with a result slice of the same length.
+    fn beside(&self) -> Option<Self> {
+        (self.call != Call::Survey).then(|| Case::survey(self.image.clone(), self.result))
     }
 }
 
@@ -123,7 +137,7 @@ impl fmt::Display for Case {
                 writeln!(out, "events: {}", listed(&tape.events()))?;
                 writeln!(out, "tape:   {}", hex(&tape.bytes()))
             }
-            Call::Stopped => Ok(()),
+            Call::Stopped | Call::Survey => Ok(()),
         }
     }
 }

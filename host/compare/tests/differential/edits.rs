@@ -92,7 +92,7 @@ pub fn without_process(case: &Case, process: usize) -> Option<Case> {
                 (0..used).for_each(|slot| renumber(block.byte(8 + 8 * slot)));
             }
         }
-        Call::Stopped => {}
+        Call::Stopped | Call::Survey => {}
     }
     dropped.then_some(case)
 }

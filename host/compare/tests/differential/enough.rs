@@ -1,12 +1,19 @@
 //! How much must be exercised, at the least, for the comparison to mean anything.
 
 use crate::refusals;
+use crate::surveys::{ANY_BYTES, BIT_TURNED, FOUND};
 use crate::tally::{Tally, CROSSINGS, CROSSING_LIST, NO_EVENTS, OUTCOMES, WAYS};
+use crate::unsound::image_causes;
 use compare::counts::Missing;
 use compare::watch::key;
 
 /// The least calls.
 const CALLS: u64 = 200_000;
+/// The least surveys, times that they find each thing, bits turned for them, and images of any bytes.
+const SURVEYS: u64 = 500_000;
+const FINDING: u64 = 1_000;
+const BITS: u64 = 57_600;
+const IMAGES: u64 = 12_600;
 /// The least events.
 const EVENTS: u64 = 20_000_000;
 /// The least fills, and takes, for each of some N.
@@ -42,6 +49,13 @@ pub fn missing(tally: &Tally) -> Missing {
     }
     missing.least(CROSSING_LIST, tally.ways.of(&CROSSING_LIST), LISTS);
     missing.least(NO_EVENTS, tally.ways.of(&NO_EVENTS), RUNS_OF_NOTHING);
+    missing.least("surveys", tally.surveys, SURVEYS);
+    FOUND.iter().for_each(|found| missing.least(found, tally.ways.of(found), FINDING));
+    missing.least(BIT_TURNED, tally.ways.of(&BIT_TURNED), BITS);
+    missing.least(ANY_BYTES, tally.ways.of(&ANY_BYTES), IMAGES);
+    for cause in image_causes().iter().filter(|cause| !cause.refuses_survey()) {
+        missing.least(&format!("survey: {}", cause.name), tally.unsound.of(&cause.name), CAUSE);
+    }
     for key in refusals::keys() {
         missing.least(&key, tally.refusals.of(&key), CAUSE);
     }

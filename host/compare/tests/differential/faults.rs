@@ -1,7 +1,7 @@
 //! The planted faults: the same comparison with a plain implementation that is wrong in one thing must report it, and
-//! shrink what it reports to a case that can be read: at most 3 processes, or 37 where the fault needs 37, and at most
-//! 3 events, equal ones in a row taken for one. The faults of loads, which these calls can't show, are found by the
-//! tests of tapes.
+//! shrink what it reports to a case that can be read: at most 3 processes, or as many as the fault needs, and at most 3
+//! events, equal ones in a row taken for one. The faults of loads, which these calls can't show, are found by the tests
+//! of tapes.
 
 use crate::case::{Call, Case};
 use crate::pieces::work;
@@ -37,6 +37,9 @@ fn every_planted_fault_is_found_and_shrunk() {
         plain::<18>(),
         plain::<19>(),
         plain::<20>(),
+        plain::<21>(),
+        plain::<22>(),
+        plain::<23>(),
     ];
     let names: Vec<&str> = FAULTS.into_iter().filter(|name| !name.contains("load")).collect();
     assert_eq!(names.len(), faulty.len(), "every planted fault has its turn");
@@ -46,8 +49,9 @@ fn every_planted_fault_is_found_and_shrunk() {
         let find = find.unwrap_or_else(|| panic!("not found: {name}")).shrunk(&sides);
         println!("found: {name}\n{find}");
         let case = &find.found.case;
-        let least = if name.contains("37 processes") { 37 } else { 3 };
-        assert!(case.image.first().is_none_or(|n| *n <= least), "not shrunk to few processes: {name}\n{find}");
+        let needed = [37, 65].into_iter().find(|needed| name.contains(&format!("{needed} processes")));
+        let most = needed.unwrap_or(3);
+        assert!(case.image.first().is_none_or(|n| *n <= most), "not shrunk to few processes: {name}\n{find}");
         assert!(distinct(case) <= 3, "not shrunk to few events: {name}\n{find}");
     }
 }

@@ -1,6 +1,7 @@
-//! Step, run and stopped: the proved library against the plain implementation, the same calls on both, and everything
-//! that they show compared. A difference is shrunk and shown as bytes and as events. The test fails too if too little
-//! was exercised: calls, events, outcomes, ways through a put, crossings, each cause of a refusal.
+//! Step, run, stopped and survey: the proved library against the plain implementation, the same calls on both, and
+//! everything that they show compared. A difference is shrunk and shown as bytes and as events. The test fails too if
+//! too little was exercised: calls, events, outcomes, ways through a put, crossings, what surveys find, each cause of a
+//! refusal.
 //!
 //! The work is the same each time. `RING_ROUNDS=20 cargo test --release --offline -p compare --test differential` does
 //! it twenty times over with other numbers, from the seed that `RING_SEED` gives (1 if it gives none) upward.
@@ -20,6 +21,7 @@ mod rules;
 mod runs;
 mod shrink;
 mod steps;
+mod surveys;
 mod sweep;
 mod tally;
 mod unsound;
@@ -27,9 +29,10 @@ mod unsound;
 use compare::calls::{PLAIN, PROVED};
 use compare::{number, watch};
 use pieces::work;
+use tally::Tally;
 
 /// The watch over the two sides, and what a part of the work comes to.
-type Watch = watch::Watch<tally::Tally>;
+type Watch = watch::Watch<Tally>;
 type Work<T> = watch::Work<T, case::Case>;
 
 #[test]
@@ -42,6 +45,7 @@ fn the_proved_library_agrees_with_the_plain_one() {
             panic!("they differ: seed {seed}, {}", find.shrunk(&sides));
         }
         enough::missing(&tally).assert_none(seed);
-        println!("seed {seed}: {} calls, {} events, {} of them idle", tally.calls, tally.events, tally.idle);
+        let Tally { calls, surveys, events, idle, .. } = tally;
+        println!("seed {seed}: {calls} calls, {surveys} of them surveys; {events} events, {idle} of them idle");
     }
 }

@@ -8,7 +8,7 @@ use std::thread;
 
 use crate::case::Case;
 use crate::tally::Tally;
-use crate::{buffers, crossings, lists, refusals, runs, steps, Watch, Work};
+use crate::{buffers, crossings, lists, refusals, runs, steps, surveys, Watch, Work};
 use compare::calls::Calls;
 use compare::watch::Found;
 use guide::Random;
@@ -63,6 +63,8 @@ fn short_kinds() -> Vec<(&'static str, Kind)> {
         ("steps: unreached images", steps::unreached),
         ("steps: puts", steps::puts),
         ("steps: nearly stopped", steps::nearly_stopped),
+        ("surveys: causes", surveys::causes),
+        ("surveys: any bytes", surveys::any_bytes),
         ("lists: mixed", lists::mixed),
         ("runs: guided", runs::guided_runs),
         ("runs: uniform", runs::uniform_runs),
@@ -72,7 +74,8 @@ fn short_kinds() -> Vec<(&'static str, Kind)> {
     ]
 }
 
-/// All pieces: those of N = 2, the crossings, then the short ones by N, the long runs by N, and the longest tape.
+/// All pieces: those of N = 2, the crossings, the turned bits, then the short ones by N, the long runs by N, and the
+/// longest tape.
 fn pieces() -> Vec<Piece> {
     let kinds = short_kinds();
     let short = |n| kinds.iter().map(move |(name, kind)| Piece { name, kind: *kind, n });
@@ -80,6 +83,7 @@ fn pieces() -> Vec<Piece> {
     let mut pieces: Vec<Piece> = short(2).collect();
     pieces.push(long(2));
     pieces.extend([2, 3].map(|n| Piece { name: "crossings", kind: crossings::lists, n }));
+    pieces.extend([2, 3, 64].map(|n| Piece { name: "surveys: every bit", kind: surveys::every_bit, n }));
     pieces.extend((3..=64).flat_map(short));
     pieces.extend((3..=64).map(long));
     pieces.push(Piece { name: "runs: longest", kind: runs::longest, n: 64 });

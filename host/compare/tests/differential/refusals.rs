@@ -64,12 +64,13 @@ pub fn outputs(watch: &mut Watch, n: usize, random: &mut Random) -> Work<()> {
         watch.refused(&Case::run(image, tape, room, result), 10, 0, RESULT_SHORT)?;
         watch.refused(&Case::step(sound(random, n), &any_event(random, n), result), 10, 0, RESULT_SHORT)?;
         watch.refused(&Case::stopped(sound(random, n), result), 10, 0, RESULT_SHORT)?;
+        watch.refused(&Case::survey(sound(random, n), result), 10, 0, RESULT_SHORT)?;
     }
     Ok(())
 }
 
-/// The cause of 10 that all three calls have.
-const RESULT_SHORT: &str = "result under 80 bytes";
+/// The cause of 10 that all calls have.
+pub const RESULT_SHORT: &str = "result under 80 bytes";
 
 /// Several things wrong at once.
 pub fn orders(watch: &mut Watch, n: usize, random: &mut Random) -> Work<()> {
@@ -94,9 +95,12 @@ pub fn orders(watch: &mut Watch, n: usize, random: &mut Random) -> Work<()> {
         expect(watch, &case, refusals.into_iter().flatten().next())?;
 
         let wrong_image = random.flip().then(|| &images[random.index(images.len())]);
-        let case = Case::stopped(image_or(wrong_image, n, random), result);
+        let image = image_or(wrong_image, n, random);
         let refusals = [wrong_image.map(|cause| cause.number), (result < 80).then_some(10)];
-        expect(watch, &case, refusals.into_iter().flatten().next().map(|number| (number, 0)))?;
+        let due = refusals.into_iter().flatten().next().map(|number| (number, 0));
+        expect(watch, &Case::stopped(image.clone(), result), due)?;
+        let refusals = [wrong_image.filter(|cause| cause.refuses_survey()).and(due), (result < 80).then_some((10, 0))];
+        expect(watch, &Case::survey(image, result), refusals.into_iter().flatten().next())?;
     }
     Ok(())
 }
@@ -106,6 +110,7 @@ pub fn keys() -> Vec<String> {
     let mut keys = Vec::new();
     for cause in image_causes() {
         keys.extend(["step", "run", "stopped"].map(|call| key(call, cause.number, &cause.name)));
+        keys.extend(cause.refuses_survey().then(|| key("survey", cause.number, &cause.name)));
     }
     for cause in length_causes().iter().chain(&event_causes()) {
         keys.push(key("step", 5, &cause.name));
@@ -116,12 +121,12 @@ pub fn keys() -> Vec<String> {
     for cause in ["ledger a byte short", "ledger a record short", "ledger of no bytes", "ledger of 11 bytes"] {
         keys.push(key("run", 10, cause));
     }
-    keys.extend(["step", "run", "stopped"].map(|call| key(call, 10, RESULT_SHORT)));
+    keys.extend(["step", "run", "stopped", "survey"].map(|call| key(call, 10, RESULT_SHORT)));
     keys
 }
 
 /// An image that is refused for this cause; where it has all its bytes, at times with more.
-fn refused_image(cause: &ImageCause, n: usize, process: usize, random: &mut Random) -> Vec<u8> {
+pub fn refused_image(cause: &ImageCause, n: usize, process: usize, random: &mut Random) -> Vec<u8> {
     let image = cause.image(random, n, process);
     match cause.number {
         4 => longer(image, random),

@@ -41,12 +41,12 @@ pub fn broken(image: &[u8]) -> Vec<&'static str> {
     RULES.iter().filter(|(_, kept)| !kept(image)).map(|(name, _)| *name).collect()
 }
 
-/// The process records.
-fn records(image: &[u8]) -> impl Iterator<Item = &[u8]> {
+/// The process records of an image of 16 + 8N bytes.
+pub fn records(image: &[u8]) -> impl Iterator<Item = &[u8]> {
     image[16..].chunks(8)
 }
 
 /// The records with this bit of this byte.
-fn ones(image: &[u8], byte: usize, bit: u8) -> usize {
+pub fn ones(image: &[u8], byte: usize, bit: u8) -> usize {
     records(image).filter(|record| record[byte] & bit != 0).count()
 }

@@ -91,7 +91,7 @@ fn shorter_buffers(case: &Case) -> Smaller<'_, Case> {
     let fewer = (1..=16).filter_map(|fewer| ledger.checked_sub(fewer)).rev();
     let lengths: Vec<usize> = halved.chain(fewer).filter(|length| *length < ledger).collect();
     let ledgers = lengths.into_iter().map(|length| changed(case, |case| set_ledger(case, length)));
-    let image = size(&case.image).map(|n| changed(case, |case| case.image.truncate(at(n))));
+    let image = case.image.first().map(|n| changed(case, |case| case.image.truncate(at(usize::from(*n)))));
     Box::new(iter::once(changed(case, |case| case.result = 80)).chain(ledgers).chain(image))
 }
 
@@ -133,9 +133,10 @@ fn fewer_processes(case: &Case) -> Smaller<'_, Case> {
     Box::new((0..n).rev().filter_map(|process| without_process(case, process)))
 }
 
-/// Records, bytes and bits of the image cleared, with the counts set right or else without.
+/// Records, bytes and bits of the image cleared, with the counts set right or else without; of an image that hasn't all
+/// its records, or is of no ring, bytes and bits alone.
 fn cleared_images(case: &Case) -> Smaller<'_, Case> {
-    let Some(n) = size(&case.image) else { return Box::new(iter::empty()) };
+    let n = size(&case.image).unwrap_or(0);
     let image = &case.image;
     let records = (0..n).map(move |process| {
         changed(image, |image| {
@@ -147,6 +148,15 @@ fn cleared_images(case: &Case) -> Smaller<'_, Case> {
     let bits = (1..image.len()).flat_map(move |byte| masks().map(move |mask: u8| (byte, mask)));
     let bits = bits.map(move |(byte, mask)| changed(image, |image| image[byte] &= mask));
     let other = records.chain(bits).filter(move |cleared| cleared != image);
-    let counted = other.flat_map(move |image| [changed(&image, |image| recount(&mut image[..at(n)])), image]);
+    let counted = other.flat_map(move |image| [recounted(&image, n), image]);
     Box::new(counted.map(|image| Case { image, ..case.clone() }))
+}
+
+/// An image of N processes with its counts set right, or as it is where N is 0.
+fn recounted(image: &Vec<u8>, n: usize) -> Vec<u8> {
+    changed(image, |image| {
+        if n > 0 {
+            recount(&mut image[..at(n)])
+        }
+    })
 }

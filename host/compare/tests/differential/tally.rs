@@ -2,6 +2,7 @@
 
 use crate::case::{Call, Case};
 use crate::image::{at, size, HAVE, NEWS};
+use crate::surveys::found;
 use compare::case::Case as _;
 use compare::compare::Answer;
 use compare::counts::Counts;
@@ -16,6 +17,8 @@ pub struct Tally {
     pub reached: bool,
     /// Calls.
     pub calls: u64,
+    /// Surveys among them.
+    pub surveys: u64,
     /// Events performed, by step and by run.
     pub events: u64,
     /// Those of them that were idle.
@@ -24,8 +27,10 @@ pub struct Tally {
     pub fills: Counts<usize>,
     /// Takes, by N.
     pub takes: Counts<usize>,
-    /// Ways that steps and stopped calls took, by name.
+    /// Ways that steps and stopped calls took, and what surveys found, by name.
     pub ways: Counts<&'static str>,
+    /// Surveys of images that aren't sound, by cause.
+    pub unsound: Counts<String>,
     /// Refusals, by call, number and cause.
     pub refusals: Counts<String>,
 }
@@ -98,11 +103,13 @@ impl watch::Tally for Tally {
 
     fn count(&mut self, case: &Case, answer: &Answer) {
         self.calls += 1;
+        self.surveys += u64::from(case.call == Call::Survey);
         let (0, Some(first)) = (answer.number, answer.word(0)) else { return };
         match &case.call {
             Call::Step { event } => self.count_step(case, event, first, answer),
             Call::Run { .. } => self.count_run(case, answer),
             Call::Stopped => self.count_way(["stopped: no", "stopped: yes"][first as usize & 1]),
+            Call::Survey => found(answer).for_each(|name| self.count_way(name)),
         }
     }
 
@@ -142,11 +149,13 @@ impl Tally {
     /// Adds another tally to this one.
     pub fn join(&mut self, other: Tally) {
         self.calls += other.calls;
+        self.surveys += other.surveys;
         self.events += other.events;
         self.idle += other.idle;
         self.fills.join(other.fills);
         self.takes.join(other.takes);
         self.ways.join(other.ways);
+        self.unsound.join(other.unsound);
         self.refusals.join(other.refusals);
     }
 }

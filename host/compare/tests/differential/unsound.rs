@@ -31,6 +31,11 @@ impl ImageCause {
         }
         image
     }
+
+    /// Whether a survey is refused for it, too: by the length or by N.
+    pub fn refuses_survey(&self) -> bool {
+        self.number == 3 || self.breaks == [SIZE]
+    }
 }
 
 /// All of them.

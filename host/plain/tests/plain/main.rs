@@ -1,5 +1,5 @@
 //! The plain implementation against documents 01 and 02: the ten entries, the refusals' order, ringrun's
-//! text, loads, and tapes of no events.
+//! text, loads, tapes of no events, and surveys.
 
 mod entries;
 mod faults;
@@ -8,3 +8,4 @@ mod no_events;
 mod refusals;
 mod reports;
 mod support;
+mod surveys;

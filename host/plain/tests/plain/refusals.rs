@@ -73,7 +73,7 @@ fn an_image_is_refused_by_length_size_length_and_rest() {
 }
 
 /// Whether an image is sound, word for word as document 01 says it.
-fn sound(image: &[u8]) -> bool {
+pub fn sound(image: &[u8]) -> bool {
     let n = usize::from(image[0]);
     let records: Vec<&[u8]> = image[16..16 + 8 * n].chunks_exact(8).collect();
     let full = image[1] == 1;
@@ -120,7 +120,7 @@ fn soundness_is_that_of_document_01() {
 }
 
 /// An image with one or two of its bytes after N altered.
-fn altered_image(image: &[u8], random: &mut guide::Random) -> Vec<u8> {
+pub fn altered_image(image: &[u8], random: &mut guide::Random) -> Vec<u8> {
     let mut image = image.to_vec();
     for _ in 0..1 + random.below(2) {
         let at = 1 + random.below(image.len() as u64 - 1) as usize;

@@ -1,7 +1,9 @@
 //! What the calls answer when they aren't refused.
 
 use crate::support::{events, ring, tape, ENTRY};
-use vengloaz::{fresh, load, read, records, run, step, stopped, write, Counts, Event, Outcome, Record};
+use vengloaz::{
+    fresh, load, read, records, run, step, stopped, survey, write, Counts, Event, Findings, Outcome, Record, Refusal,
+};
 
 /// The last image of entry 1, which entry 2 gives.
 const LAST_IMAGE: [u8; 32] =
@@ -107,6 +109,61 @@ fn a_run_of_no_events() {
             assert_eq!(run(&mut image, &[], &mut ledger[..length]), Ok(Counts::default()));
         }
         assert_eq!((&image, ledger), (&before, [0xEE; 12]));
+    }
+}
+
+/// What a survey finds in a sound image with these processes marked.
+fn sound(full: u64, empty: u64) -> Findings {
+    Findings { verdict: Ok(()), flags: 1, full, empty }
+}
+
+/// Nobody is marked in entry 1: each process gets the envelope as it wants it.
+#[test]
+fn a_survey_after_every_event() {
+    let mut image = ring();
+    assert_eq!(survey(&image), Ok(sound(0, 0)));
+    for event in events(ENTRY) {
+        step(&mut image, event).expect("entry 1 isn't refused");
+        assert_eq!(survey(&image), Ok(sound(0, 0)));
+        assert!(survey(&image).is_ok_and(|found| found.is_sound()));
+    }
+}
+
+/// Process 63 of 64 waits for full with the empty envelope; and process 1 of 3 for empty while the full one goes by.
+#[test]
+fn a_survey_names_the_marked_processes() {
+    let after = |n: u64, home: u64, list: &str| {
+        let mut image = fresh(n, home).expect("there is such a ring");
+        events(list).into_iter().for_each(|event| assert!(step(&mut image, event).is_ok()));
+        survey(&image)
+    };
+    assert_eq!(after(64, 63, "63.1 63.3 63.7"), Ok(sound(1 << 63, 0)));
+    let list = "0.0(7) 0.3 0.7 0.2 0.3 1.0(7) 1.3 2.1 2.3 2.7 1.5 1.7 0.5 0.7 1.4 1.7";
+    assert_eq!(after(3, 0, list), Ok(sound(0, 1 << 1)));
+}
+
+/// Images that no ring gets to: no flag, two flags, marks in wrong stages and uncounted, and every bit set.
+#[test]
+fn a_survey_of_what_is_not_sound() {
+    let unsound =
+        |flags: u32, full: u64, empty: u64| Ok(Findings { verdict: Err(Refusal::ImageUnsound), flags, full, empty });
+    let changed = |bytes: &[(usize, u8)]| {
+        let mut image = ring();
+        bytes.iter().for_each(|(at, to)| image[*at] = *to);
+        survey(&image)
+    };
+    assert_eq!(changed(&[(17, 0)]), unsound(0, 0, 0));
+    assert_eq!(changed(&[(25, 2)]), unsound(2, 0, 0));
+    assert_eq!(changed(&[(17, 255), (25, 255)]), unsound(4, 0, 0));
+    assert_eq!(changed(&[(18, 16), (26, 48)]), unsound(1, 0b11, 0b10));
+    assert_eq!(changed(&[(3, 1)]), unsound(1, 0, 0));
+    assert_eq!(changed(&[(15, 1)]), unsound(1, 0, 0));
+    assert_eq!(changed(&[(24, 255), (26, 16), (3, 1)]), unsound(1, 0b10, 0));
+    for n in 2..=64 {
+        let mut image = vec![255; 16 + 8 * n + 5];
+        image[0] = n as u8;
+        let all = u64::MAX >> (64 - n);
+        assert_eq!(survey(&image), unsound(2 * n as u32, all, all));
     }
 }
 

@@ -107,7 +107,7 @@ fn c_and_rust_declare_what_the_archives_export() {
     let host = exported("ring_host");
     assert_eq!(host.keys().collect::<Vec<_>>(), ["ring_run", "ring_step", "ring_stopped"]);
     let mut all = exported("ring_tools");
-    assert_eq!(all.keys().collect::<Vec<_>>(), ["ring_fresh", "ring_load", "ring_read", "ring_write"]);
+    assert_eq!(all.keys().collect::<Vec<_>>(), ["ring_fresh", "ring_load", "ring_read", "ring_survey", "ring_write"]);
     all.extend(host);
     assert_eq!(in_c(HEADER), all);
     assert_eq!(in_rust(RAW), all);
@@ -119,6 +119,7 @@ fn c_and_rust_declare_what_the_archives_export() {
 fn another_declaration_is_found() {
     let faults = [
         ("ring_stopped(const uint8_t *image", "ring_stopped(uint8_t *image"),
+        ("ring_survey(const uint8_t *image, size_t image_length, ", "ring_survey("),
         ("ring_fresh(uint64_t n, uint64_t home", "ring_fresh(uint64_t home, uint64_t n"),
         ("ring_read(uint64_t n, ", "ring_read("),
         ("uint64_t ring_write(", "uint64_t ring_writes("),

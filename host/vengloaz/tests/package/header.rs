@@ -72,6 +72,7 @@ fn every_number_is_that_of_the_calls() {
     records(&numbers);
     loads(&numbers);
     words(&numbers);
+    surveys(&numbers);
     let used = numbers.used.borrow();
     let unused: Vec<_> = numbers.all.keys().filter(|name| !used.contains(*name)).collect();
     assert!(unused.is_empty(), "held against nothing: {unused:?}");
@@ -311,4 +312,23 @@ fn words(numbers: &Numbers) {
     assert_eq!(word(&result, numbers.of("WORD_FILLED")), 512);
     raw::ring_load(2, 1, 64, &mut [0; 1100], &mut result);
     assert_eq!(word(&result, numbers.of("WORD_FILLED")), 1024);
+}
+
+/// An image in which every word of a survey has another number, and the same with nothing set in it.
+fn surveys(numbers: &Numbers) {
+    let told = |image: &[u8]| {
+        let mut result = [0xEE; 80];
+        assert_eq!(raw::ring_survey(image, &mut result), numbers.of("DONE") as u64);
+        let names = ["WORD_VERDICT", "WORD_VERDICT_PLACE", "WORD_FLAGS", "WORD_MARKED_FULL", "WORD_MARKED_EMPTY"];
+        names.map(|name| word(&result, numbers.of(name)))
+    };
+    let mut image = fresh(64, 0).expect("it is a ring");
+    assert_eq!(told(&image), [0, 0, 1, 0, 0]);
+    for process in [1, 63] {
+        image[numbers.at(process, "PROCESS_FLAGS")] = (numbers.of("HAVE") | numbers.of("ARRIVING")) as u8;
+    }
+    image[numbers.at(63, "PROCESS_REQUESTS")] = numbers.of("MARKED_FULL") as u8;
+    image[numbers.at(5, "PROCESS_REQUESTS")] = numbers.of("MARKED_EMPTY") as u8;
+    assert_eq!(told(&image), [numbers.of("REFUSED_UNSOUND") as u64, 0, 5, 1 << 63, 1 << 5]);
+    assert_eq!(numbers.of("WORD_VERDICT_PLACE"), numbers.of("WORD_VERDICT") + 1);
 }

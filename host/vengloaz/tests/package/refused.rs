@@ -1,7 +1,7 @@
 //! What each refusal becomes as a value, by each call that has it.
 
 use crate::support::{events, ring, tape, ENTRY};
-use vengloaz::{fresh, load, read, run, step, stopped, write, Event, Refusal};
+use vengloaz::{fresh, load, read, run, step, stopped, survey, write, Event, Refusal};
 
 /// Asserts that a call is refused so, and that its refusal has this number and place.
 fn assert_refused<T: std::fmt::Debug + PartialEq>(answer: Result<T, Refusal>, due: Refusal, number: u8, place: u64) {
@@ -34,8 +34,24 @@ fn short_images() {
         assert_refused(step(short, Event::put(1, 7)), Refusal::ImageShort, 3, 0);
         assert_refused(run(short, &tape(&events(ENTRY)), &mut [0; 48]), Refusal::ImageShort, 3, 0);
         assert_refused(stopped(short), Refusal::ImageShort, 3, 0);
+        assert_refused(survey(short), Refusal::ImageShort, 3, 0);
     }
     assert_eq!(image, ring());
+}
+
+/// A byte 0 that isn't 2 to 64, in buffers with room for such a ring and without it: not even a survey is answered.
+#[test]
+fn images_of_no_ring() {
+    for n in [0, 1, 65, 66, 128, 255] {
+        for length in [16, 32, 16 + 8 * 255] {
+            let mut image = vec![0; length];
+            image[0] = n;
+            assert_refused(step(&mut image, Event::get(0)), Refusal::ImageUnsound, 4, 0);
+            assert_refused(run(&mut image, &[], &mut []), Refusal::ImageUnsound, 4, 0);
+            assert_refused(stopped(&image), Refusal::ImageUnsound, 4, 0);
+            assert_refused(survey(&image), Refusal::ImageUnsound, 4, 0);
+        }
+    }
 }
 
 #[test]
@@ -46,6 +62,7 @@ fn unsound_images() {
     assert_refused(step(&mut image, Event::get(0)), Refusal::ImageUnsound, 4, 0);
     assert_refused(run(&mut image, &tape(&events(ENTRY)), &mut [0; 48]), Refusal::ImageUnsound, 4, 0);
     assert_refused(stopped(&image), Refusal::ImageUnsound, 4, 0);
+    assert_eq!(survey(&image).map(|found| found.verdict), Ok(Err(Refusal::ImageUnsound)));
     assert_eq!(image, before);
 }
 

@@ -3,8 +3,8 @@ use native.Mathlib.Omega.{arith}
 use borrow.Author.Needs.{needs}
 use lib.Count.{ones-le}
 use Rattle.sound.proofs.Walked.{counts-none}
-use Rattle.sound.proofs.Walk.counts.Statement.{statement}
-use Rattle.sound.proofs.Walk.counts.Tie as tie
+use Rattle.sound.proofs.walk.Walk.counts.Statement.{statement}
+use Rattle.sound.proofs.walk.Walk.counts.Tie as tie
 
 returns : tie.Need-returns
 returns c = counts-none (c .before .before .args .self) (c .if1 .taken)

@@ -1,9 +1,9 @@
--- Each arm is that entry's mask, and an entry that no arm names has its stage tested whole.
+-- Each arm is that entry's mask, and an entry that no arm names has bits 3 to 7 of its stage tested.
 use mathlib.Core.Path.{refl}
 use Rattle.sound.specs.Demands.{demandOf}
 use Rattle.sound.proofs.Rows.{row-is, rest-is}
-use Rattle.sound.proofs.demand.Statement.{statement}
-use Rattle.sound.proofs.demand.Tie as tie
+use Rattle.sound.proofs.walk.demand.Statement.{statement}
+use Rattle.sound.proofs.walk.demand.Tie as tie
 
 returns : tie.Need-returns
 unfolding demandOf
@@ -98,23 +98,7 @@ unfolding demandOf
 returns-23 c = row-is (c .match .keys23) refl
 
 returns-24 : tie.Need-returns-24
-unfolding demandOf
-returns-24 c = row-is (c .match .keys24) refl
-
-returns-25 : tie.Need-returns-25
-unfolding demandOf
-returns-25 c = row-is (c .match .keys25) refl
-
-returns-26 : tie.Need-returns-26
-unfolding demandOf
-returns-26 c = row-is (c .match .keys26) refl
-
-returns-27 : tie.Need-returns-27
-unfolding demandOf
-returns-27 c = row-is (c .match .keys27) refl
-
-returns-28 : tie.Need-returns-28
-returns-28 c = rest-is (c .before .args .entry) (c .before .pre) (c .match .rest)
+returns-24 c = rest-is (c .before .args .entry) (c .before .pre) (c .match .rest)
 
 pub demand-spec : {M : Type 1} → statement M
 demand-spec =
@@ -143,8 +127,4 @@ demand-spec =
     returns-21
     returns-22
     returns-23
-    returns-24
-    returns-25
-    returns-26
-    returns-27
-    returns-28)
+    returns-24)

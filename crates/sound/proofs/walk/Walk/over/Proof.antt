@@ -3,12 +3,11 @@ use Prim.Native.Nat.{_+_, _-_, _≤_}
 use mathlib.Core.Path.{_≡_}
 use native.Mathlib.Omega.{arith}
 use lib.Dec.{eqb}
-use Rattle.machine.specs.Fields.{full, empty}
 use Rattle.machine.specs.Bytes.{Bytes}
 use Rattle.sound.specs.Walk.{Walked}
-use Rattle.sound.proofs.Walked.{walk-none, walk-step, set-below}
-use Rattle.sound.proofs.Walk.over.Statement.{statement}
-use Rattle.sound.proofs.Walk.over.Tie as tie
+use Rattle.sound.proofs.Walked.{walk-none, walk-step, room-for-more}
+use Rattle.sound.proofs.walk.Walk.over.Statement.{statement}
+use Rattle.sound.proofs.walk.Walk.over.Tie as tie
 
 abbrev Inv-loop : tie.InvT-loop
 Inv-loop image status n walk₀ i₀ walk i = (i ≤ n) × Walked image (eqb status 1) i (n - i) walk
@@ -26,11 +25,8 @@ on-requires : tie.Need-on-requires Inv-loop μ-loop
 on-requires c κs =
     let l = c .before .before .loop in
     let a = c .before .before .before .before .args in
-    let so = l .inv .1 in (
-      omega arith,
-      set-below (a .image .now) full (l .i) (a .n - l .i) (omega arith) (so .full),
-      set-below (a .image .now) empty (l .i) (a .n - l .i) (omega arith) (so .empty),
-    )
+    let room = room-for-more (a .image .now) (eqb (a .status) 1) (l .i) (a .n - l .i) (omega arith) (l .inv .1) in
+    (omega arith, room .0, room .1, room .2)
 
 loop-again : tie.Need-loop-again Inv-loop μ-loop
 loop-again c =
@@ -41,7 +37,7 @@ loop-again c =
     let next : l .i ≡ l .i - 1 + 1 = omega arith in
     let so = rw next at (l .inv .1) in (
       omega arith,
-      walk-step (a .image .now) small (a .status) (a .n) (l .i - 1) (omega arith) (omega arith) (omega arith) so
+      walk-step (a .image .now) small (a .status) (a .n) (l .i - 1) (omega arith) (omega arith) so
           (c .before .eight-at .ensures) (c .on .ensures),
     )
 
