@@ -20,8 +20,9 @@ static void step(uint8_t *image, size_t image_length, const uint8_t *event)
     if (refusal != RING_DONE)
         printf("refused %" PRIu64 " at %" PRIu64 "\n", refusal, ring_word(result, RING_WORD_PLACE));
     else
-        printf("%s %" PRIu64 "\n", outcomes[ring_word(result, RING_WORD_OUTCOME)],
-               ring_word(result, RING_WORD_MESSAGE));
+        printf("%s %" PRIu64 ", requests %" PRIu64 ", departures %" PRIu64 "\n",
+               outcomes[ring_word(result, RING_WORD_OUTCOME)], ring_word(result, RING_WORD_MESSAGE),
+               ring_word(result, RING_WORD_STEP_REQUESTS), ring_word(result, RING_WORD_STEP_DEPARTURES));
 }
 
 /* Prints whether the ring can still move by itself. */
@@ -34,23 +35,23 @@ static void stopped(const uint8_t *image, size_t image_length)
 
 int main(void)
 {
-    static const uint8_t put[RING_EVENT_SIZE] = {0, RING_WISH_PUT, 0, 0, 7, 0, 0, 0};
-    static const uint8_t signal[RING_EVENT_SIZE] = {0, RING_HEAR_MAIN, 0, 0, 0, 0, 0, 0};
-    static const uint8_t news[RING_EVENT_SIZE] = {0, RING_PUT_ACTS, 0, 0, 0, 0, 0, 0};
-    static const uint8_t work[RING_EVENT_SIZE] = {0, RING_WORK, 0, 0, 0, 0, 0, 0};
-    static const uint8_t nobody[RING_EVENT_SIZE] = {2, RING_WISH_GET, 0, 0, 0, 0, 0, 0};
+    static const uint8_t events[][RING_EVENT_SIZE] = {
+        {0, RING_WISH_PUT, 0, 0, 7, 0, 0, 0}, {0, RING_WISH_PUT, 0, 0, 7, 0, 0, 0},
+        {0, RING_HEAR_MAIN, 0, 0, 0, 0, 0, 0}, {0, RING_PUT_ACTS, 0, 0, 0, 0, 0, 0},
+        {0, RING_WORK, 0, 0, 0, 0, 0, 0}, {0, RING_HEAR_MAIN, 0, 0, 0, 0, 0, 0},
+        {1, RING_WISH_GET, 0, 0, 0, 0, 0, 0}, {1, RING_HEAR_MAIN, 0, 0, 0, 0, 0, 0},
+        {1, RING_PUT_ACTS, 0, 0, 0, 0, 0, 0}, {0, RING_HEAR_FULL, 0, 0, 0, 0, 0, 0},
+        {0, RING_PUT_ACTS, 0, 0, 0, 0, 0, 0}, {2, RING_WISH_GET, 0, 0, 0, 0, 0, 0}
+    };
     uint8_t image[RING_IMAGE_SIZE(2)];
     uint8_t result[RING_RESULT_SIZE];
+    size_t k;
 
     if (ring_fresh(2, 0, image, sizeof image, result, sizeof result) != RING_DONE)
         return 1;
     stopped(image, sizeof image);
-    step(image, sizeof image, put);
-    step(image, sizeof image, put);
-    step(image, sizeof image, signal);
-    step(image, sizeof image, news);
-    step(image, sizeof image, work);
-    step(image, sizeof image, nobody);
+    for (k = 0; k < sizeof events / sizeof events[0]; k++)
+        step(image, sizeof image, events[k]);
     stopped(image, sizeof image);
     return 0;
 }

@@ -27,14 +27,15 @@ extern "C" {
 
 /* ---- libring_host.a: step, run and stopped, on an image of RING_IMAGE_SIZE(n) bytes or more */
 
-/* Performs one event on an image. Told: RING_WORD_OUTCOME, RING_WORD_MESSAGE. Refusals 3, 4; 5; 10. */
+/* Performs one event on an image. Told: RING_WORD_OUTCOME, RING_WORD_MESSAGE, RING_WORD_STEP_REQUESTS,
+ * RING_WORD_STEP_DEPARTURES. Refusals 3, 4; 5; 10. */
 uint64_t ring_step(uint8_t *image, size_t image_length, const uint8_t *event, size_t event_length, uint8_t *result,
                    size_t result_length);
 
 /* Performs every event of a tape on an image, and writes a record for each fill, take, sent and got to the start of the
  * ledger, whose further bytes are kept. A tape of length 0, whose pointer isn't NULL either, has no events: the image
- * is tested, and nothing changes. Told: RING_WORD_PUTS to RING_WORD_RECORDS. Refusals 3, 4; 6, then block by block 7,
- * 8, 5, 9; 10. */
+ * is tested, and nothing changes. Told: RING_WORD_PUTS to RING_WORD_RECORDS, RING_WORD_RUN_REQUESTS,
+ * RING_WORD_RUN_DEPARTURES. Refusals 3, 4; 6, then block by block 7, 8, 5, 9; 10. */
 uint64_t ring_run(uint8_t *image, size_t image_length, const uint8_t *tape, size_t tape_length, uint8_t *ledger,
                   size_t ledger_length, uint8_t *result, size_t result_length);
 
@@ -88,10 +89,12 @@ enum ring_refusal {
 /* ---- the words of a result slice: word k is bytes 8k to 8k + 7 */
 
 enum ring_word {
-    RING_WORD_PLACE = 0,          /* of a refusal; 0 where it has none */
-    RING_WORD_OUTCOME = 0,        /* of a step: enum ring_outcome */
-    RING_WORD_MESSAGE = 1,        /* of a step: the message of a fill or a take, else 0 */
-    RING_WORD_PUTS = 0,           /* of a run: puts and gets started, then events by outcome, then records */
+    RING_WORD_PLACE = 0,            /* of a refusal; 0 where it has none */
+    RING_WORD_OUTCOME = 0,          /* of a step: enum ring_outcome */
+    RING_WORD_MESSAGE = 1,          /* of a step: the message of a fill or a take, else 0 */
+    RING_WORD_STEP_REQUESTS = 2,    /* of a step: requests put on the link to the left, absorbed ones too, 0 to 2 */
+    RING_WORD_STEP_DEPARTURES = 3,  /* of a step: 1 if the envelope left, else 0 */
+    RING_WORD_PUTS = 0,             /* of a run: puts and gets started, then events by outcome, then records */
     RING_WORD_GETS = 1,
     RING_WORD_FILLS = 2,
     RING_WORD_TAKES = 3,
@@ -99,13 +102,15 @@ enum ring_word {
     RING_WORD_GOT = 5,
     RING_WORD_IDLE = 6,
     RING_WORD_RECORDS = 7,
-    RING_WORD_STOPPED = 0,        /* of stopped: 1 or 0 */
-    RING_WORD_VERDICT = 0,        /* of a survey: the refusal of the image by step, run and stopped; 0 if it is sound */
-    RING_WORD_VERDICT_PLACE = 1,  /* of a survey: the place of that refusal */
-    RING_WORD_FLAGS = 2,          /* of a survey: how many have and arriving flags are set */
-    RING_WORD_MARKED_FULL = 3,    /* of a survey: the processes marked for full; bit i is process i */
-    RING_WORD_MARKED_EMPTY = 4,   /* of a survey: the processes marked for empty, likewise */
-    RING_WORD_FILLED = 0          /* of writer, reader and load: bytes at the start of the output */
+    RING_WORD_RUN_REQUESTS = 8,     /* of a run: what its events have as steps, added up */
+    RING_WORD_RUN_DEPARTURES = 9,   /* of a run: likewise */
+    RING_WORD_STOPPED = 0,          /* of stopped: 1 or 0 */
+    RING_WORD_VERDICT = 0,          /* of a survey: the refusal of the image by step, run and stopped; 0 if sound */
+    RING_WORD_VERDICT_PLACE = 1,    /* of a survey: the place of that refusal */
+    RING_WORD_FLAGS = 2,            /* of a survey: how many have and arriving flags are set */
+    RING_WORD_MARKED_FULL = 3,      /* of a survey: the processes marked for full; bit i is process i */
+    RING_WORD_MARKED_EMPTY = 4,     /* of a survey: the processes marked for empty, likewise */
+    RING_WORD_FILLED = 0            /* of writer, reader and load: bytes at the start of the output */
 };
 
 /* Word k of a result slice. */

@@ -4,7 +4,7 @@
 use Prim.Native.Nat.{ℕ, _^_}
 use mathlib.Core.Path.{_≡_, refl, sym, subst, _∙_}
 use mathlib.Core.Bool.{true}
-use mathlib.Core.List.{List, [], _∷_}
+use mathlib.Core.List.{List, [], _∷_, _++_}
 use native.Mathlib.Omega.{arith}
 use lib.ListN.{length}
 use lib.Dec.{ltb}
@@ -17,6 +17,7 @@ use Rattle.machine.specs.Lists.{all}
 use Rattle.machine.specs.Image.{State, sizeIn, stateIn, imageWith}
 use Rattle.machine.specs.Events.{Event, outcome, apply}
 use Rattle.machine.specs.Run.{noCounts, countsFrom, countValues, after}
+use Rattle.machine.specs.Traffic.{traffic, trafficFrom, trafficValues}
 use Rattle.machine.specs.Balance.{Totals, onRing}
 use Rattle.machine.specs.Tape.{eventIn}
 use Rattle.machine.specs.Refusals.{orElse, codes, imageVerdict, eventVerdict, tapeVerdict, outputVerdict}
@@ -44,7 +45,8 @@ pub record Reached (n : ℕ) (image : List ℕ) (t : Totals) : Type 0 where
   pub invariant : Invariant (stateIn image) t
 
 -- what holds where a verdict is fine, and where it is a refusal, holds of it
-by-verdict : (P : Verdict → Type 0) (v : Verdict) → (v ≡ Fine → P Fine) → ((r : Refusal) → P (Refused r)) → P v
+pub by-verdict : (P : Verdict → Type 0) (v : Verdict) → (v ≡ Fine → P Fine) → ((r : Refusal) → P (Refused r))
+    → P v
 by-verdict P Fine accepted refused = accepted refl
 by-verdict P (Refused r) accepted refused = refused r
 
@@ -58,6 +60,13 @@ on-ring n (v ∷ vs) fit =
       and-first (ltb (v .process) n) (ltb (v .message) (2 ^ 32)) here,
       on-ring n vs (and-second (fitting n v) (all (fitting n) vs) fit),
     )
+
+-- an accepted event of bytes fits a ring
+pub accepted-fitting : (n : ℕ) (event : List ℕ) → Bytes event → eventVerdict codes n event ≡ Fine
+    → fitting n (eventIn event 0) ≡ true
+unfolding eventIn
+accepted-fitting n event bytes accepted =
+    rw (lt-ltb _ n (event-below n event accepted), lt-ltb _ (2 ^ 32) (number-lt event 4 bytes))
 
 module _ {n : ℕ} {image : List ℕ} {t : Totals} (before : Reached n image t) where
   -- a call that leaves the image and shows nothing
@@ -81,32 +90,34 @@ module _ {n : ℕ} {image : List ℕ} {t : Totals} (before : Reached n image t) 
     abbrev v : Event
     v = eventIn event 0
 
+    -- its answer's values
+    abbrev stepValues : List ℕ
+    stepValues = outcomeValues (outcome (stateIn image) v) ++ trafficValues (traffic (stateIn image) v)
+
     -- done, it is one event on the state
     step-done : eventVerdict codes (sizeIn image) event ≡ Fine
         → Reached n (imageWith image (apply (stateIn image) v))
-        (plus t (stepShows event (answer Fine (outcomeValues (outcome (stateIn image) v)))))
+        (plus t (stepShows event (answer Fine stepValues)))
     unfolding eventIn
     step-done accepted =
         let st = stateIn image in
         let below = event-below (sizeIn image) event accepted in
-        let fits : fitting (sizeIn image) v ≡ true =
-        rw (lt-ltb (v .process) (sizeIn image) below, lt-ltb (v .message) (2 ^ 32) (number-lt event 4 bytes)) in
+        let fits = accepted-fitting (sizeIn image) event bytes accepted in
         let inv = event-kept st t (before .invariant) v (omega (arith, length-state image)) in
         written (apply st v) _ (event-continues image v (before .fine) (before .small) fits)
-        (subst (Invariant (apply st v)) (step-shows event (outcome st v) t) inv)
+        (subst (Invariant (apply st v)) (step-shows event (outcome st v) (traffic st v) t) inv)
 
     step-kept : Reached n (stepImage image event) (plus t (shown image (Step event)))
     unfolding stepImage stepAnswer stepVerdict
     step-kept =
         let st = stateIn image in
-        let values = outcomeValues (outcome st v) in
         rw (before .fine)
         (by-verdict (λ w. Reached n (lent w image (imageWith image (apply st v)))
-        (plus t (stepShows event (answer w values))))
+        (plus t (stepShows event (answer w stepValues))))
         (eventVerdict codes (sizeIn image) event) step-done
         (λ r.
         subst (λ (u : Totals). Reached n image (plus t u))
-        (sym (step-refused event (answer (Refused r) values) (number-range r .0))) unchanged))
+        (sym (step-refused event (answer (Refused r) stepValues) (number-range r .0))) unchanged))
 
   -- ---- a run
 
@@ -116,13 +127,13 @@ module _ {n : ℕ} {image : List ℕ} {t : Totals} (before : Reached n image t) 
     vs = runEvents tape
 
     -- its answer's values
-    abbrev values : List ℕ
-    values = countValues (countsFrom noCounts (stateIn image) vs)
+    abbrev runValues : List ℕ
+    runValues = countValues (countsFrom noCounts (stateIn image) vs) ++ trafficValues (trafficFrom (stateIn image) vs)
 
     -- done, it is the tape's events on the state
     run-done : tapeVerdict codes (sizeIn image) tape ≡ Fine
         → Reached n (imageWith image (after (stateIn image) vs))
-        (plus t (runShows (answer Fine values) (splice ledger 0 (runRecords image tape))))
+        (plus t (runShows (answer Fine runValues) (splice ledger 0 (runRecords image tape))))
     unfolding runRecords
     run-done accepted =
         let st = stateIn image in
@@ -132,7 +143,7 @@ module _ {n : ℕ} {image : List ℕ} {t : Totals} (before : Reached n image t) 
         (on-ring (length (st .processes)) vs fit-state) in
         written (after st vs) _ (events-continue vs image (before .fine) (before .small) fit)
         (subst (Invariant (after st vs))
-        (run-shows ledger st vs (read-in-range image (before .small)) fit-state t) inv)
+        (run-shows ledger st vs (read-in-range image (before .small)) fit-state (trafficFrom st vs) t) inv)
 
     run-kept : Reached n (runImage image tape ledger) (plus t (shown image (Run tape ledger)))
     unfolding runImage runAnswer runLedger runVerdict
@@ -143,11 +154,11 @@ module _ {n : ℕ} {image : List ℕ} {t : Totals} (before : Reached n image t) 
         let room = outputVerdict (length records) ledger in
         rw (before .fine)
         (by-verdict (λ w. Reached n (lent w image (imageWith image (after st vs)))
-        (plus t (runShows (answer w values) (lent w ledger (splice ledger 0 records)))))
+        (plus t (runShows (answer w runValues) (lent w ledger (splice ledger 0 records)))))
         (orElse test room) (λ accepted. run-done (first-fine test room accepted))
         (λ r.
         subst (λ (u : Totals). Reached n image (plus t u))
-        (sym (run-refused ledger (answer (Refused r) values) (number-range r .0))) unchanged))
+        (sym (run-refused ledger (answer (Refused r) runValues) (number-range r .0))) unchanged))
 
   -- ---- any call
 

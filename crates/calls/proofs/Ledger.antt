@@ -19,11 +19,11 @@ use Rattle.machine.specs.Run.{noCounts, counted, countsFrom}
 use Rattle.machine.specs.Balance.{filledFrom, takenFrom}
 use Rattle.machine.proofs.Laws.Lists.{and-first, and-second}
 use Rattle.machine.proofs.Image.Readback.{InRange, byte-here, number-here}
-use Rattle.machine.proofs.Soundness.Kept.{length-applied, range-kept}
+use Rattle.machine.proofs.Soundness.Kept.{length-applied, range-kept, outcome-small}
 use Rattle.machine.proofs.Runs.{fitting, fitting-process, fitting-message}
 use Rattle.machine.proofs.Tallies.{length-entry, records-more}
 use Rattle.calls.specs.Calls.{messageIf, recordMessage, ledgerMessages}
-use Rattle.calls.proofs.Messages.{outcome-small, messageOf, messagesFrom, filled-from, taken-from, unrecorded}
+use Rattle.calls.proofs.Messages.{messageOf, messagesFrom, filled-from, taken-from, unrecorded}
 
 -- ---- one record
 

@@ -1,4 +1,4 @@
--- The third demand, proved, and what the stopped call says.
+-- The third demand, proved, and what the stopped call says; a run's traffic by steps.
 pub mod Flags
 pub mod Messages
 pub mod Ledger
@@ -8,3 +8,5 @@ pub mod Demand
 pub mod Witness
 pub mod Suite
 pub mod Standstill
+pub mod Sums
+pub mod Performed

@@ -1,33 +1,18 @@
--- The message that an event fills or takes is in range, as notes and the envelope's own are: four bytes hold it. Fill
--- and take are told apart by the ledger's codes, 2 and 3, which no unrecorded outcome has.
-use Prim.Native.Nat.{ℕ, _^_, _≤_, _<_}
+-- Fill and take are told apart by the ledger's codes, 2 and 3, which no unrecorded outcome has.
+use Prim.Native.Nat.{ℕ, _≤_}
 use mathlib.Core.Path.{_≡_, refl, sym, ap₂, _∙_}
 use mathlib.Core.Bool.{false}
 use mathlib.Core.List.{List, [], _∷_, _++_}
 use native.Mathlib.Omega.{arith}
-use lib.ListN.{length}
 use lib.Dec.{eqb}
 use borrow.Author.Tests.{leb-false, ne-eqb}
 use Rattle.machine.specs.declared.Outcome.{Outcome}
 use Rattle.machine.specs.declared.Outcome.the-variants.{Idle, Moved, Fill, Take, Sent, Got}
 use Rattle.machine.specs.Image.{State}
-use Rattle.machine.specs.Events.{Event, processAt, reaction, outcome, apply}
+use Rattle.machine.specs.Events.{Event, outcome, apply}
 use Rattle.machine.specs.Run.{outcomeNumber, outcomeMessage, recorded}
 use Rattle.machine.specs.Balance.{filledBy, takenBy, filledFrom, takenFrom}
-use Rattle.machine.proofs.Soundness.Ranges.{react-small}
-use Rattle.machine.proofs.Image.Readback.{InRange}
 use Rattle.calls.specs.Calls.{messageIf}
-
--- ---- in range
-
-pub outcome-small : (st : State) (v : Event) → v .process < length (st .processes) → v .message < 2 ^ 32 → InRange st
-    → outcomeMessage (outcome st v) < 2 ^ 32
-unfolding outcome reaction
-outcome-small st v below message range =
-    react-small (v .code) (v .message) (st .envelope) (processAt (st .processes) (v .process)) message
-    (range .message) (range .notes (v .process) below) .2
-
--- ---- by the ledger's code
 
 -- the message of an outcome, if it has this code
 abbrev pub messageOf : ℕ → Outcome → List ℕ

@@ -9,6 +9,7 @@ use native.Mathlib.Omega.{arith}
 use lib.ListN.{length, getD}
 use borrow.Author.Tests.{ne-eqb}
 use Rattle.machine.specs.declared.Outcome.{Outcome}
+use Rattle.machine.specs.declared.Traffic.{Traffic}
 use Rattle.machine.specs.declared.Verdict.the-variants.{Fine}
 use Rattle.machine.specs.Bytes.{splice}
 use Rattle.machine.specs.Lists.{all}
@@ -16,6 +17,7 @@ use Rattle.machine.specs.Image.{State}
 use Rattle.machine.specs.Events.{Event}
 use Rattle.machine.specs.Run.{ledgerFrom, noCounts, counted, countsFrom, countValues}
 use Rattle.machine.specs.Balance.{Totals, totalsOf, filledFrom, takenFrom}
+use Rattle.machine.specs.Traffic.{trafficValues}
 use Rattle.machine.specs.Answers.{Answer, answer, outcomeValues}
 use Rattle.machine.proofs.Image.Readback.{InRange}
 use Rattle.machine.proofs.Runs.{fitting}
@@ -66,25 +68,26 @@ step-refused event a refused = adds-nothing a _ refused
 pub run-refused : (ledger : List ℕ) (a : Answer) → 1 ≤ a .number → runShows a ledger ≡ nothing
 run-refused ledger a refused = adds-nothing a _ refused
 
--- ---- a step that is done
+-- ---- a step that is done, whatever its traffic
 
-pub step-shows : (event : List ℕ) (o : Outcome) (t : Totals)
-    → added (getD event 1 0) o t ≡ plus t (stepShows event (answer Fine (outcomeValues o)))
+pub step-shows : (event : List ℕ) (o : Outcome) (links : Traffic) (t : Totals)
+    → added (getD event 1 0) o t ≡ plus t (stepShows event (answer Fine (outcomeValues o ++ trafficValues links)))
 unfolding counted
-step-shows event o t =
+step-shows event o links t =
     ap₂ (λ (filled taken : List ℕ). totalsOf (counted (getD event 1 0) o (countsOf t)) (t .filled ++ filled)
     (t .taken ++ taken))
     (sym (filled-2 o)) (sym (taken-3 o))
 
--- ---- a run that is done
+-- ---- a run that is done, whatever its traffic
 
 module _ (ledger : List ℕ) (st : State) (vs : List Event) (range : InRange st)
     (fit : all (fitting (length (st .processes))) vs ≡ true) where
-  pub run-shows : (t : Totals)
+  pub run-shows : (links : Traffic) (t : Totals)
       → totalsOf (countsFrom (countsOf t) st vs) (t .filled ++ filledFrom st vs) (t .taken ++ takenFrom st vs)
       ≡ plus t
-      (runShows (answer Fine (countValues (countsFrom noCounts st vs))) (splice ledger 0 (ledgerFrom 0 st vs)))
-  run-shows t =
+      (runShows (answer Fine (countValues (countsFrom noCounts st vs) ++ trafficValues links))
+      (splice ledger 0 (ledgerFrom 0 st vs)))
+  run-shows links t =
       same-totals _ _ (puts-add vs st (countsOf t)) (gets-add vs st (countsOf t)) (sent-add vs st (countsOf t))
       (got-add vs st (countsOf t)) (ap (λ (l : List ℕ). t .filled ++ l) (sym (filled-read ledger st vs range fit)))
       (ap (λ (l : List ℕ). t .taken ++ l) (sym (taken-read ledger st vs range fit)))

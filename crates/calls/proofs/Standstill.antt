@@ -1,10 +1,10 @@
 -- The stopped call is never refused after a list of calls, since the image is accepted, and its yes is the rule's: each
--- of events 2 to 7 is idle wherever it is tried, and a step with it answers just that outcome. A host with room for the
--- result reads the call's own answer.
+-- of events 2 to 7 is idle wherever it is tried, and a step with it answers just that outcome, with no traffic. A host
+-- with room for the result reads the call's own answer.
 use Prim.Native.Nat.{ℕ, _≤_, _<_}
-use mathlib.Core.Path.{_≡_, refl, sym, ap, _∙_}
+use mathlib.Core.Path.{_≡_, refl, sym, ap, ap₂, _∙_}
 use mathlib.Core.Bool.{Bool, true, false}
-use mathlib.Core.List.{List, [], _∷_}
+use mathlib.Core.List.{List, [], _∷_, _++_}
 use mathlib.Core.Logic.{_⊎_, inl, inr}
 use native.Mathlib.Omega.{arith}
 use lib.ListN.{length}
@@ -13,14 +13,17 @@ use Rattle.machine.specs.declared.Outcome.the-variants.{Idle, Moved, Fill, Take
 use Rattle.machine.specs.declared.Verdict.the-variants.{Fine}
 use Rattle.machine.specs.Bytes.{bit}
 use Rattle.machine.specs.Image.{sizeIn, stateIn}
+use Rattle.machine.specs.Events.{Event}
 use Rattle.machine.specs.Run.{outcomeNumber}
-use Rattle.machine.specs.Stopped.{stopped}
+use Rattle.machine.specs.Stopped.{isIdle, stopped}
+use Rattle.machine.specs.Traffic.{trafficValues}
 use Rattle.machine.specs.Refusals.{imageVerdict}
 use Rattle.machine.specs.Answers.{Answer, answer, outcomeValues, stoppedAnswer}
 use Rattle.machine.proofs.Image.Stored.{length-state}
 use Rattle.machine.proofs.Laws.Bits.{bit-on}
 use Rattle.machine.proofs.Steps.{step-answers}
 use Rattle.machine.proofs.Stopped.{stopped-means, means-stopped}
+use Rattle.machine.proofs.LinkTraffic.{idle-none}
 use Rattle.calls.specs.Calls.{value}
 use Rattle.calls.specs.Demand.{SaysStopped}
 use Rattle.calls.specs.Suite.{wordTold}
@@ -46,8 +49,10 @@ module _ (n : ℕ) (image : List ℕ) (fine : imageVerdict image ≡ Fine) (size
   all-idle halts i below code low high =
       let on-ring : i < length (stateIn image .processes) = omega (arith, length-state image, size) in
       let idle = stopped-means (stateIn image) halts i on-ring code (omega arith) (omega arith) in
+      let v : Event = record { process = i; code = code; message = 0 } in
+      let still = idle-none (stateIn image) v (ap isIdle idle) in
       step-answers image fine i code (omega (arith, size)) (omega arith)
-      ∙ ap (λ (o : Outcome). answer Fine (outcomeValues o)) idle
+      ∙ ap₂ (λ o links. answer Fine (outcomeValues o ++ trafficValues links)) idle still
 
   idle-all : AllIdle n image → stopped (stateIn image) ≡ true
   idle-all each =

@@ -1,9 +1,9 @@
 -- The third demand over the calls of the suite's host: every call keeps what Calls.Reached says, which is what
 -- Demand.promised reads. With a result slice of at least 80 bytes a call leaves the image as the call itself does, and
--- what is read back shows the same: the values fit their words, since messages have 32 bits and a run has at most
--- 4,128,768 events. With a shorter slice a call leaves the image, and the number that it returns isn't 0, so that it
--- shows nothing.
-use Prim.Native.Nat.{ℕ, suc, _-_, _^_, _≤_, _<_}
+-- what is read back shows the same: the values fit their words, since messages have 32 bits, a run has at most
+-- 4,128,768 events, and an event puts at most two requests on a link. With a shorter slice a call leaves the image, and
+-- the number that it returns isn't 0, so that it shows nothing.
+use Prim.Native.Nat.{ℕ, suc, _-_, _*_, _^_, _≤_, _<_}
 use mathlib.Core.Path.{_≡_, refl, sym, ap, ap₂, subst, _∙_}
 use mathlib.Core.List.{List, [], _∷_, _++_, map}
 use mathlib.Core.Logic.{_⊎_, inl, inr}
@@ -13,6 +13,7 @@ use lib.Dec.{lit<, lit≤}
 use Rattle.machine.specs.declared.Counts.{Counts}
 use Rattle.machine.specs.declared.Outcome.{Outcome}
 use Rattle.machine.specs.declared.Outcome.the-variants.{Idle, Moved, Fill, Take, Sent, Got}
+use Rattle.machine.specs.declared.Traffic.{Traffic}
 use Rattle.machine.specs.declared.Verdict.{Verdict}
 use Rattle.machine.specs.declared.Verdict.the-variants.{Fine, Refused}
 use Rattle.machine.specs.Bytes.{Bytes, bit}
@@ -22,17 +23,20 @@ use Rattle.machine.specs.Image.{sizeIn, stateIn}
 use Rattle.machine.specs.Events.{outcome}
 use Rattle.machine.specs.Stopped.{stopped}
 use Rattle.machine.specs.Run.{outcomeNumber, noCounts, countsFrom, countValues}
+use Rattle.machine.specs.Traffic.{traffic, trafficFrom, trafficValues}
 use Rattle.machine.specs.Balance.{Totals}
 use Rattle.machine.specs.Tape.{eventIn}
 use Rattle.machine.specs.Refusals.{numberOf, codes, imageVerdict, tapeVerdict}
 use Rattle.machine.specs.Answers.{Answer, answer, freshImage, outcomeValues, stepVerdict, stepAnswer, stepImage}
 use Rattle.machine.specs.Answers.{runEvents, runVerdict, runAnswer, runImage, runLedger, stoppedAnswer}
 use Rattle.machine.specs.Host.{returned, lentWith}
+use Rattle.machine.proofs.Soundness.Kept.{outcome-small}
 use Rattle.machine.proofs.Laws.Bytes.{lt-or-ge, number-lt}
 use Rattle.machine.proofs.Laws.Bits.{bit-le}
 use Rattle.machine.proofs.Image.Stored.{length-state}
 use Rattle.machine.proofs.Image.Rewrite.{read-in-range}
 use Rattle.machine.proofs.Laws.Refusals.{number-range, event-below, first-fine, second-fine}
+use Rattle.machine.proofs.LinkTraffic.{requests-few, departures-few, list-few}
 use Rattle.ledger.specs.Bounds.{NoneAbove}
 use Rattle.ledger.proofs.Bounds.{none-above-le, none-above-start, counts-few}
 use Rattle.tape.proofs.Events.{length-events, events-few}
@@ -45,7 +49,6 @@ use Rattle.calls.specs.Calls.Call.{Step, Run, Stopped}
 use Rattle.calls.specs.Demand.{SaysStopped, given, GivenBytes}
 use Rattle.calls.specs.Suite.{HostCall, hostImage, hostImageAll, answerRead, hostAnswer, hostShown, hostShownAll}
 use Rattle.calls.specs.Suite.{wordTold, TellsStopped, SuiteDemand}
-use Rattle.calls.proofs.Messages.{outcome-small}
 use Rattle.calls.proofs.Shown.{plus-nothing, nothing-plus, plus-assoc, step-refused, run-refused}
 use Rattle.calls.proofs.Calls.{Reached, unchanged, call-kept}
 use Rattle.calls.proofs.Demand.{fresh-reached, told-flag, promised}
@@ -96,18 +99,27 @@ outcome-fits Got = lit< tt
 message-fits : {n : ℕ} → n < 2 ^ 32 → n < 2 ^ 64
 message-fits small = omega arith
 
-count-fits : {n : ℕ} → n ≤ 4128768 → n < 2 ^ 64
+-- a number of events, and twice that
+count-fits : {n : ℕ} → n ≤ 2 * 4128768 → n < 2 ^ 64
 count-fits few = omega arith
 
-counts-fit : {c : Counts} → NoneAbove 4128768 c → FitWords (countValues c)
-counts-fit c =
+-- with whatever stands behind them
+counts-fit : {c : Counts} {rest : List ℕ} → NoneAbove (2 * 4128768) c → FitWords rest
+    → FitWords (countValues c ++ rest)
+counts-fit c rest =
     one (count-fits (c .puts)) (one (count-fits (c .gets)) (one (count-fits (c .fills)) (one (count-fits (c .takes))
     (one (count-fits (c .sent)) (one (count-fits (c .got)) (one (count-fits (c .idle))
-    (one (count-fits (c .records)) none)))))))
+    (one (count-fits (c .records)) rest)))))))
+
+traffic-fits : (links : Traffic) → links .requests ≤ 2 * 4128768 → links .departures ≤ 2 * 4128768
+    → FitWords (trafficValues links)
+traffic-fits links requests departures = one (count-fits requests) (one (count-fits departures) none)
 
 module _ (image : List ℕ) (small : Bytes image) where
   step-fits : (event : List ℕ) → Bytes event → stepVerdict image event ≡ Fine
-      → FitWords (outcomeValues (outcome (stateIn image) (eventIn event 0)))
+      → FitWords
+      (outcomeValues (outcome (stateIn image) (eventIn event 0))
+      ++ trafficValues (traffic (stateIn image) (eventIn event 0)))
   unfolding stepVerdict eventIn
   step-fits event bytes fine =
       let st = stateIn image in
@@ -115,17 +127,23 @@ module _ (image : List ℕ) (small : Bytes image) where
       let below = event-below (sizeIn image) event (second-fine (imageVerdict image) _ fine) in
       let message = outcome-small st v (omega (arith, length-state image)) (number-lt event 4 bytes)
       (read-in-range image small) in
-      one (outcome-fits (outcome st v)) (one (message-fits message) none)
+      one (outcome-fits (outcome st v)) (one (message-fits message)
+      (traffic-fits (traffic st v) (omega (arith, requests-few st v)) (omega (arith, departures-few st v))))
 
   run-fits : (tape ledger : List ℕ) → runVerdict image tape ledger ≡ Fine
-      → FitWords (countValues (countsFrom noCounts (stateIn image) (runEvents tape)))
+      → FitWords
+      (countValues (countsFrom noCounts (stateIn image) (runEvents tape))
+      ++ trafficValues (trafficFrom (stateIn image) (runEvents tape)))
   unfolding runVerdict
   run-fits tape ledger fine =
       let tests = tapeVerdict codes (sizeIn image) tape in
       let accepted = first-fine tests _ (second-fine (imageVerdict image) _ fine) in
       let counts = counts-few (runEvents tape) (stateIn image) 0 none-above-start in
-      let few = events-few codes (sizeIn image) tape accepted in
-      counts-fit (none-above-le (omega (arith, length-events tape)) counts)
+      let few : length (runEvents tape) ≤ 4128768 =
+      omega (arith, length-events tape, events-few codes (sizeIn image) tape accepted) in
+      let links = list-few (runEvents tape) (stateIn image) in
+      counts-fit (none-above-le (omega arith) counts)
+      (traffic-fits (trafficFrom (stateIn image) (runEvents tape)) (omega (arith, links .0)) (omega (arith, links .1)))
 
 -- ---- every call keeps what is known
 

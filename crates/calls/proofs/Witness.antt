@@ -22,6 +22,7 @@ use Rattle.calls.specs.Calls.{Call, imageAfterAll, ledgerMessages, shown
 use Rattle.calls.specs.Calls.Call.{Step, Run, Stopped}
 use Rattle.calls.specs.Demand.{SaysStopped, Promised, given, GivenBytes}
 use Rattle.calls.specs.Suite.{HostCall, hostImageAll, hostShownAll, TellsStopped}
+use Rattle.calls.specs.Sums.{trafficByAll}
 use Rattle.calls.proofs.Demand.{demand-three}
 
 -- a tape whose event 1 is at process 2
@@ -45,6 +46,11 @@ pub all-ended :
     × SaysStopped (imageAfterAll ring calls)
 unfolding rules ring firstTen lastTen offRing calls imageAfterAll ledgerMessages shownByAll
 all-ended = (refl, refl)
+
+-- the envelope was asked for and left twice: to the sender, and to the receiver
+pub all-traffic : trafficByAll ring calls ≡ record { requests = 2; departures = 2 }
+unfolding rules ring firstTen lastTen offRing calls trafficByAll
+all-traffic = refl
 
 -- ---- through the suite's host
 

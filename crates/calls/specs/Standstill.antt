@@ -10,11 +10,13 @@ use Rattle.machine.specs.Host.{returned}
 use Rattle.calls.specs.Demand.{SaysStopped, AfterEveryList}
 use Rattle.calls.specs.Suite.{wordTold, AfterEveryHostList}
 
--- a step with any of the events 2 to 7, at any of n processes, would answer idle, which is outcome 0 with message 0
+-- a step with any of the events 2 to 7, at any of n processes, would answer idle, which is outcome 0 with message 0,
+-- and no traffic
 abbrev pub AllIdle : ℕ → List ℕ → Type 0
 AllIdle n image =
     (process : ℕ) → process < n → (code : ℕ) → 2 ≤ code → code ≤ 7
-    → stepAnswer image (process ∷ code ∷ 0 ∷ 0 ∷ 0 ∷ 0 ∷ 0 ∷ 0 ∷ []) ≡ record { number = 0; values = 0 ∷ 0 ∷ [] }
+    → stepAnswer image (process ∷ code ∷ 0 ∷ 0 ∷ 0 ∷ 0 ∷ 0 ∷ 0 ∷ [])
+    ≡ record { number = 0; values = 0 ∷ 0 ∷ 0 ∷ 0 ∷ [] }
 
 -- ---- by its answer
 

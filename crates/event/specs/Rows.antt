@@ -30,9 +30,9 @@ needOf code =
     cond (eqb code 4) (2 ^ 9)
     (cond (eqb code 5) (2 ^ 22) (cond (eqb code 6) (2 ^ 23) (cond (eqb code 7) (2 ^ 10) (2 ^ (24 + code)))))
 
--- what a code counts as started, in a byte of its own: a put in the seventh, a get in the eighth
+-- what a code counts as started, in a word of counts: a put from bit 42 on, a get from bit 49 on
 abbrev pub startedBy : ℕ → ℕ
-startedBy code = 2 ^ 48 * bit (eqb code 0) + 2 ^ 56 * bit (eqb code 1)
+startedBy code = 2 ^ 42 * bit (eqb code 0) + 2 ^ 49 * bit (eqb code 1)
 
 -- what a code turns off in its own record, what it then adds, and what it counts as started. Bits 8 to 10 are have,
 -- arriving and news; 16 and 17 asked by the right, 22 and 23 the link's requests, full the lower one

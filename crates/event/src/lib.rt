@@ -96,10 +96,10 @@ pub struct Row {
     pub started: u64,
 }
 
-// What a start adds to a word of counts, one byte for each: a put, a get.
-pub const PUTS: u64 = 0x1_0000_0000_0000;
+// What a start adds to a word of counts (`turns::turns`): a put, a get.
+pub const PUTS: u64 = 0x400_0000_0000;
 
-pub const GETS: u64 = 0x100_0000_0000_0000;
+pub const GETS: u64 = 0x2_0000_0000_0000;
 
 // All of the note.
 const WHOLE_NOTE: u64 = 0xFFFF_FFFF_0000_0000;

@@ -1,7 +1,7 @@
 -- What holds of every load's tape: event k is the one of draws 3k + 1 to 3k + 3, the tape is accepted for any number of
 -- codes from 8 on and reads back as the events, and the call does what the writer does with these events. A process is
 -- below n since it is a remainder by n, a code below 8 likewise, and a message is a number drawn or 0.
-use Prim.Native.Nat.{ℕ, _+_, _*_, _/_, _%_, _^_, _≤_, _<_}
+use Prim.Native.Nat.{ℕ, _+_, _*_, _/_, _%_, _≤_, _<_}
 use mathlib.Core.Path.{_≡_, refl, sym, ap, _∙_}
 use mathlib.Core.Bool.{Bool, true, false, cond, _||_}
 use mathlib.Core.List.{List, [], _∷_, append-nil}
@@ -11,17 +11,17 @@ use lib.ListN.{length, take}
 use lib.Dec.{eqb}
 use borrow.Author.Tests.{lt-ltb}
 use Rattle.machine.specs.declared.Verdict.the-variants.{Fine}
-use Rattle.machine.specs.Bytes.{part, littleEndian, number, bytes, allZero, zeros, splice}
+use Rattle.machine.specs.Bytes.{part, number, bytes, allZero, zeros, splice}
 use Rattle.machine.specs.Lists.{tabulate}
 use Rattle.machine.specs.Events.{Event}
 use Rattle.machine.specs.Tape.{eventIn, eventsIn, eventBytes, listBytes, slotAt, listOf}
 use Rattle.machine.specs.Refusals.{codes, sizeVerdict, seedVerdict, eventFits, listVerdict, tapeVerdict}
 use Rattle.machine.specs.Answers.{answer, runEvents, writeVerdict, writeAnswer, writeOutput, readAnswer, readOutput}
 use Rattle.machine.specs.Load.{drawn, eventBy, loadEvent, loadEvents, loadTape, loadVerdict, loadAnswer, loadOutput}
-use Rattle.machine.proofs.Laws.Bytes.{littleEndian-bytes-4}
 use Rattle.machine.proofs.Laws.Lists.{tabulate-same}
 use Rattle.machine.proofs.Laws.Refusals.{first-fine, second-fine}
 use Rattle.machine.proofs.Loads.{message-within, length-load, part-list-bytes, load-begins}
+use Rattle.machine.proofs.Tapes.{bytes-read}
 use Rattle.tape_test.proofs.Blocks.{fine-list}
 use Rattle.tape.proofs.Parts.{same-event, same-fits}
 use Rattle.tape.proofs.Slots.{slot-written}
@@ -31,14 +31,7 @@ use Rattle.load.proofs.Ways.{Given, given, load-given}
 
 -- ---- an event's own bytes
 
--- they are the event's
-bytes-read : (v : Event) → v .message < 2 ^ 32 → eventIn (eventBytes v) 0 ≡ v
-unfolding eventIn number bytes
-bytes-read v small =
-    ap (λ (m : ℕ). record { process = v .process; code = v .code; message = m })
-    (littleEndian-bytes-4 (v .message) small)
-
--- and all of its bytes
+-- they are all of it
 own-part : (v : Event) → part (eventBytes v) 0 8 ≡ eventBytes v
 unfolding bytes
 own-part v = refl

@@ -5,6 +5,7 @@ pub mod Soundness
 pub mod Cases
 pub mod Idle
 pub mod Neighbours
+pub mod LinkTraffic
 pub mod Stopped
 pub mod Steps
 pub mod Runs

@@ -1,9 +1,10 @@
 -- An event changes at most one neighbour: only a process without the envelope asks, and only one with it lets it leave.
 -- Each part of a put hands on what another part did for the neighbours. Other events change none.
-use Prim.Native.Nat.{ℕ}
+use Prim.Native.Nat.{ℕ, _≤_}
 use mathlib.Core.Path.{_≡_, refl, _∙_}
 use mathlib.Core.Bool.{Bool, false, not, cond, Bool·beq}
 use mathlib.Core.Logic.{_⊎_, inl, inr}
+use native.Mathlib.Omega.{arith}
 use lib.Dec.{eqb}
 use Rattle.machine.specs.declared.Pair.{Pair}
 use Rattle.machine.specs.declared.Envelope.{Envelope}
@@ -15,7 +16,7 @@ use Rattle.machine.specs.Stages.{told}
 use Rattle.machine.specs.Events.{becomes, changed, idle, ask, pass, markFor, mark, unmark, clear, wanted}
 use Rattle.machine.specs.Events.{leave, setMarkers, forward, ends, relay, wait, endPut, putAt}
 use Rattle.machine.specs.Events.{startPut, startGet, work, signal, receive, takeRequest, put, react}
-use Rattle.machine.proofs.Soundness.Ways.{choice, pass-keeps, every-stage, every-code}
+use Rattle.machine.proofs.Soundness.Ways.{choice, pass-keeps, every-stage, by-code, every-code}
 
 -- a choice between two that agree in something
 in-both : {A : Type 0} (f : Reaction → A) (b : Bool) (x y : Reaction) {a : A} → f x ≡ a → f y ≡ a → f (cond b x y) ≡ a
@@ -128,6 +129,13 @@ module _ (e : Envelope) (p : Process) where
       choice OneSide (p .news) (putAt (p .stage) r) (idle e p) (put-at-side r refl refl (p .stage)) (inl refl)
 
 -- ---- every event
+
+-- one of the codes 0 to 6 does neither
+pub low-alone : (code m : ℕ) (e : Envelope) (p : Process) → code ≤ 6 → NoSide (react code m e p)
+low-alone code m e p =
+    by-code (λ (c : ℕ) r. c ≤ 6 → NoSide r) m e p (λ _. start-put-alone e p m) (λ _. start-get-alone e p)
+    (λ _. work-alone e p) (λ _. signal-alone e p) (λ _. receive-alone e p) (λ _. request-alone e p full)
+    (λ _. request-alone e p empty) (λ seven. absurd (omega (arith, seven))) (λ _ _. (refl, refl)) code
 
 pub one-neighbour : (code m : ℕ) (e : Envelope) (p : Process) → OneSide (react code m e p)
 one-neighbour code m e p =

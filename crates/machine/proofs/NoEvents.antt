@@ -71,14 +71,14 @@ pub home-missing : (n : ℕ) → reportText (n ∷ []) ≡ reportText (n ∷ 0 �
 unfolding reportVerdict reportText
 home-missing n = refl
 
--- a run of it, on every accepted image and with every ledger: eight counts of 0, and both as they were
+-- a run of it, on every accepted image and with every ledger: eight counts of 0, no traffic, and both as they were
 module _ (image ledger : List ℕ) (fine : imageVerdict image ≡ Fine) where
   run-fine : runVerdict image [] ledger ≡ Fine
   unfolding ofNothing ofRun ofRunCall
   run-fine = rw fine (room ledger)
 
   pub nothing-run : Bytes image
-      → (runAnswer image [] ledger ≡ answer Fine (0 ∷ 0 ∷ 0 ∷ 0 ∷ 0 ∷ 0 ∷ 0 ∷ 0 ∷ []))
+      → (runAnswer image [] ledger ≡ answer Fine (0 ∷ 0 ∷ 0 ∷ 0 ∷ 0 ∷ 0 ∷ 0 ∷ 0 ∷ 0 ∷ 0 ∷ []))
       × (runImage image [] ledger ≡ image)
       × (runLedger image [] ledger ≡ ledger)
   unfolding ofNothing ofRun runEvents runRecords runAnswer runImage runLedger

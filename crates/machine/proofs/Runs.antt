@@ -3,7 +3,7 @@
 use Prim.Native.Nat.{ℕ, _^_, _<_}
 use mathlib.Core.Path.{_≡_, refl, sym, ap, subst, _∙_}
 use mathlib.Core.Bool.{Bool, true, _&&_}
-use mathlib.Core.List.{List, [], _∷_}
+use mathlib.Core.List.{List, [], _∷_, _++_}
 use lib.ListN.{length}
 use lib.Dec.{ltb}
 use borrow.Author.Tests.{ltb-true}
@@ -37,6 +37,12 @@ pub length-after : (vs : List Event) (st : State) → length (after st vs .proce
 unfolding after
 length-after [] st = refl
 length-after (v ∷ vs) st = length-after vs (apply st v) ∙ length-applied st v
+
+-- two lists, one after the other
+pub after-joined : (vs ws : List Event) (st : State) → after st (vs ++ ws) ≡ after (after st vs) ws
+unfolding after
+after-joined [] ws st = refl
+after-joined (v ∷ vs) ws st = after-joined vs ws (apply st v)
 
 -- an image s with a state written over its own: what the next call finds
 pub record Continues (s : List ℕ) (st : State) : Type 0 where

@@ -1,9 +1,10 @@
 -- The step call on the whole: after it an accepted image is accepted again, with the same N, whatever the event's
--- bytes; an idle event changes no byte; and what a step answers to an event without a message is the rule's outcome.
+-- bytes; an idle event changes no byte; and what a step answers to an event without a message is the rule's outcome and
+-- traffic.
 use Prim.Native.Nat.{ℕ, _<_}
 use mathlib.Core.Path.{_≡_, refl, ap, _∙_}
 use mathlib.Core.Bool.{Bool, true, false, _||_}
-use mathlib.Core.List.{List, [], _∷_}
+use mathlib.Core.List.{List, [], _∷_, _++_}
 use lib.Dec.{eqb}
 use borrow.Author.Tests.{lt-ltb}
 use Rattle.machine.specs.declared.Verdict.{Verdict}
@@ -11,6 +12,7 @@ use Rattle.machine.specs.declared.Verdict.the-variants.{Fine, Refused}
 use Rattle.machine.specs.Image.{sizeIn, stateIn, imageWith}
 use Rattle.machine.specs.Events.{Event, outcome, apply}
 use Rattle.machine.specs.Stopped.{isIdle}
+use Rattle.machine.specs.Traffic.{traffic, trafficValues}
 use Rattle.machine.specs.Tape.{eventIn}
 use Rattle.machine.specs.Refusals.{codes, imageVerdict, eventFits, eventVerdict}
 use Rattle.machine.specs.Answers.{answer, lent, outcomeValues, stepVerdict, stepAnswer, stepImage}
@@ -76,7 +78,8 @@ module _ (s : List ℕ) (fine : imageVerdict s ≡ Fine) (i code : ℕ) (on-ring
   unfolding stepVerdict eventVerdict eventFits zeros allZero
   taken = rw (fine, lt-ltb i (sizeIn s) on-ring, lt-ltb code codes known, either-true (eqb code 0))
 
-  pub step-answers : stepAnswer s plain ≡ answer Fine (outcomeValues (outcome (stateIn s) v))
+  pub step-answers : stepAnswer s plain
+      ≡ answer Fine (outcomeValues (outcome (stateIn s) v) ++ trafficValues (traffic (stateIn s) v))
   unfolding stepAnswer eventIn number littleEndian
   step-answers = rw taken
 

@@ -68,6 +68,13 @@ pub struct Counts {
     pub records: u64,
 }
 
+// The link traffic of an event, or of a list of them: how many requests went on the link to the left, also where one
+// waits there and absorbs it, and how often the envelope left to the right.
+pub struct Traffic {
+    pub requests: u64,
+    pub departures: u64,
+}
+
 // The rows of the table of refusals, in the order of their numbers; those with a place hold it.
 pub enum Refusal {
     Size,

@@ -1,5 +1,5 @@
 -- What must be known before a reaction is written and before an event is performed, and what is then so.
-use Prim.Native.Nat.{ℕ, _%_, _^_, _<_}
+use Prim.Native.Nat.{ℕ, _+_, _%_, _^_, _<_}
 use mathlib.Core.Path.{_≡_}
 use mathlib.Core.Bool.{cond}
 use mathlib.Core.List.{List}
@@ -8,9 +8,10 @@ use Rattle.machine.specs.declared.Verdict.the-variants.{Fine}
 use Rattle.machine.specs.Image.{State, sizeIn, stateIn}
 use Rattle.machine.specs.Events as rule
 use Rattle.machine.specs.Stopped.{isIdle}
+use Rattle.machine.specs.Traffic.{traffic}
 use Rattle.machine.specs.Refusals.{imageVerdict}
 use Rattle.reaction.specs.declared.Reaction.{Reaction}
-use Rattle.reaction.specs.Reaction.{shown, Fits}
+use Rattle.reaction.specs.Reaction.{shown, Fits, trafficWord}
 use Rattle.event.specs.declared.Event.{Event}
 use Rattle.event.specs.Parsed.{ruled}
 use Rattle.event.specs.Rows.{startedBy}
@@ -48,7 +49,8 @@ pub record Performable (s : List ℕ) (event : Event) : Type 0 where
 abbrev pub startedAs : ℕ → Outcome → ℕ
 startedAs code o = cond (isIdle o) 0 (startedBy code)
 
--- the outcome is the rule's, and a start counts
+-- the outcome is the rule's, and a start and the traffic count
 pub record Performed (s : List ℕ) (event : Event) (r : Done) : Type 0 where
   pub said : r .outcome ≡ rule.outcome (stateIn s) (ruled event)
-  pub counts : r .started ≡ startedAs (event .code) (r .outcome)
+  pub counts : r .counted
+      ≡ startedAs (event .code) (r .outcome) + trafficWord (traffic (stateIn s) (ruled event))

@@ -18,10 +18,11 @@ ghost use Rattle.machine.specs.Events as rule;
 ghost use Rattle.event.specs.Parsed.{ruled};
 ghost use Rattle.place.specs.Performed.{Placeable, placed, Performable, Performed};
 
-// What a performed event came to: its outcome, and what it counts as started.
+// What a performed event came to: its outcome, and what it adds to a word of counts beside it, by its start and its
+// traffic.
 pub struct Done {
     pub outcome: Outcome,
-    pub started: u64,
+    pub counted: u64,
 }
 
 // Requests go on the link at process k.
@@ -78,18 +79,20 @@ pub fn perform(image: &mut [u8], event: Event) -> Done
     if !event.is_possible(own) {
         return Done {
             outcome: Outcome::Idle,
-            started: 0,
+            counted: 0,
         };
     }
     let header = Header::of(image);
     let r = event.apply(header, own);
     let outcome = r.outcome;
+    let reach = r.reach;
+    let counted = r.started + reach.traffic();
     let ring = Ring {
         size: header.size(),
     };
     place(image, ring, i, r);
     Done {
         outcome: outcome,
-        started: r.started,
+        counted: counted,
     }
 }

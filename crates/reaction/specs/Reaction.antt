@@ -1,11 +1,13 @@
 -- What an event does, in words, as the rule's reaction; and what each part of it must know and does by the rule.
-use Prim.Native.Nat.{ℕ, _%_, _≤_, _<_}
+use Prim.Native.Nat.{ℕ, _+_, _*_, _%_, _^_, _≤_, _<_}
 use mathlib.Core.Path.{_≡_}
 use mathlib.Core.Bool.{Bool, true, false, cond}
 use lib.Dec.{eqb}
 use Rattle.machine.specs.declared.Envelope.{Envelope}
 use Rattle.machine.specs.declared.Process.{Process}
 use Rattle.machine.specs.declared.Reaction as rule-reaction
+use Rattle.machine.specs.declared.Traffic.{Traffic}
+use Rattle.machine.specs.Bytes.{bit}
 use Rattle.machine.specs.Fields.{Status, for, count}
 use Rattle.machine.specs.Image.{pairOf}
 use Rattle.machine.specs.Events as rule
@@ -77,6 +79,20 @@ pub record Makes (f : Ruled → Ruled) (r t : Reaction) : Type 0 where
 -- no neighbour more is reached
 abbrev pub Keeps : Reaction → Reaction → Type 0
 Keeps r t = t .reach ≡ r .reach
+
+-- ---- its traffic
+
+-- of requests as two bits, and of an envelope that leaves or doesn't
+abbrev pub trafficBy : ℕ → Bool → Traffic
+trafficBy asks leaves =
+    record {
+      requests = bit (pairOf asks 0 .full) + bit (pairOf asks 0 .empty);
+      departures = bit leaves;
+    }
+
+-- as part of a word of counts: requests from bit 7 on, departures from bit 56 on
+abbrev pub trafficWord : Traffic → ℕ
+trafficWord t = 2 ^ 7 * t .requests + 2 ^ 56 * t .departures
 
 -- ---- a put's wish
 

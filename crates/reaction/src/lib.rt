@@ -3,6 +3,9 @@
 use machine::Outcome;
 use record::header::Header;
 use record::process::Record;
+ghost use mathlib.Core.Path.{_≡_};
+ghost use Prim.Native.Nat.{_<_};
+ghost use Rattle.reaction.specs.Reaction.{asksIn, leavesIn, trafficWord, trafficBy};
 
 pub mod put; // put.rt: the put thread, code 7
 
@@ -12,6 +15,25 @@ pub enum Reach {
     Own,
     Left(u64),
     Right,
+}
+
+// What a request and a departure add to a word of counts (`turns::turns`).
+pub const REQUESTS: u64 = 0x80;
+
+pub const DEPARTURES: u64 = 0x100_0000_0000_0000;
+
+impl Reach {
+    // Internal: its traffic, in a word of counts. Two bits have (asks + 1) / 2 ones.
+    pub fn traffic(self) -> u64
+        requires { ⌜ asksIn self < 4 ⌝ }
+        ensures { λ r. ⌜ r ≡ trafficWord (trafficBy (asksIn self) (leavesIn self)) ⌝ }
+    {
+        match self {
+            Reach::Own => 0,
+            Reach::Left(asks) => (asks + 1) / 2 * REQUESTS,
+            Reach::Right => DEPARTURES,
+        }
+    }
 }
 
 // What an event does: to its own record and to the header, which neighbour it reaches, what it counts as started, and

@@ -1,39 +1,42 @@
--- The run after k events: the image, the counts and the ledger are what the first k events of the tape come to. A
+-- The run after k events: the image, the counts, the traffic and the ledger are what the first k events come to. A
 -- block's events come next, by turns, and join those before (turns/proofs/Joined); after the last block they are all
 -- that were asked for. Between two blocks k is a multiple of 63, or nothing is left; event k stands at
 -- 8 * (k + k / 63 + 1), which the loops reach by adding 8. Measuring is the same run on a copy of the image (Spare),
 -- whose count of records is this run's, whatever ledger is lent to it; room for a record an event is enough without it
 -- (Room).
-use Prim.Native.Nat.{ℕ, zero, suc, _+_, _-_, _*_, _/_, _%_, _≤_, _<_}
-use mathlib.Core.Path.{_≡_, refl, sym, ap, _∙_}
+use Prim.Native.Nat.{ℕ, zero, suc, _+_, _-_, _*_, _/_, _%_, _^_, _≤_, _<_}
+use mathlib.Core.Path.{_≡_, refl, sym, ap, ap₂, _∙_}
 use mathlib.Core.List.{List, _++_, append-assoc, append-nil}
 use native.Mathlib.Omega.{arith}
 use lib.ListN.{length}
 use lib.Seq.{getD-take}
 use Rattle.machine.specs.declared.Counts.{Counts}
+use Rattle.machine.specs.declared.Traffic.{Traffic}
 use Rattle.machine.specs.Bytes.{Bytes}
 use Rattle.machine.specs.Lists.{tabulate}
-use Rattle.machine.specs.Image.{sizeIn, stateIn, imageWith}
+use Rattle.machine.specs.Image.{State, sizeIn, stateIn, imageWith}
 use Rattle.machine.specs.Events.{Event}
 use Rattle.machine.specs.Tape.{eventIn, slotAt}
 use Rattle.machine.specs.Run.{noCounts, countsFrom, after}
+use Rattle.machine.specs.Traffic.{noTraffic, together, trafficFrom}
 use Rattle.machine.specs.Refusals.{codes}
 use Rattle.machine.specs.Answers.{runEvents}
 use Rattle.machine.proofs.Laws.Lists.{tabulate-more}
+use Rattle.machine.proofs.LinkTraffic.{list-few, traffic-joined}
 use Rattle.tape_test.specs.Accepted.{eventsOn}
 use Rattle.tape_test.proofs.Blocks.{tape-fine}
 use Rattle.tape.proofs.Slots.{event-placed}
 use Rattle.tape.proofs.Events as events
 use Rattle.ledger.specs.Bounds.{NoneAbove}
 use Rattle.ledger.proofs.Bounds.{none-above-le, none-above-start, counts-few}
-use Rattle.turns.specs.declared.Tally.{Tally}
-use Rattle.turns.specs.Turns.{added, eventsFrom, Turning, Tallied, Ran}
+use Rattle.turns.specs.Turns.{added, trafficIn, eventsFrom, Turning, Tallied, Ran}
 use Rattle.turns.proofs.Joined.{counts-joined, nobody, Stands, ran-stands, ran-none, ran-joined}
-use Rattle.replay.specs.Playable.{Playable, Recorded, firstEvents, firstRecords}
+use Rattle.replay.specs.Playable.{Playable, Tells, Recorded, firstEvents, firstRecords}
 use Rattle.replay.proofs.First.{first-long}
 
--- after k events of a run on s₀ and l₀, and `at` bytes of the tape: the image s, the ledger l, the counts c
-pub record Progress (s₀ tape : List ℕ) (total : ℕ) (l₀ s l : List ℕ) (c : Counts) (at k : ℕ) : Type 0 where
+-- after k events of a run on s₀ and l₀, and `at` bytes of the tape: image s, ledger l, counts c, traffic u
+pub record Progress (s₀ tape : List ℕ) (total : ℕ) (l₀ s l : List ℕ) (c : Counts) (u : Traffic) (at k : ℕ)
+    : Type 0 where
   pub ready : Playable s₀ tape total
   pub start-small : Bytes s₀
   pub tape-small : Bytes tape
@@ -44,6 +47,7 @@ pub record Progress (s₀ tape : List ℕ) (total : ℕ) (l₀ s l : List ℕ) (
   pub above : NoneAbove k c
   pub ran : Ran 0 0 s₀ l₀ (firstEvents tape k) s l
   pub counts : c ≡ countsFrom noCounts (stateIn s₀) (firstEvents tape k)
+  pub traffic : u ≡ trafficFrom (stateIn s₀) (firstEvents tape k)
   pub long : length l ≡ length l₀
 
 -- a block's events start at event k: where they end, of so many that were asked for
@@ -54,8 +58,8 @@ pub record Ends (k total end : ℕ) : Type 0 where
   pub full : end < total → end ≡ k + 63
 
 module _ {s₀ tape : List ℕ} {total : ℕ} (ready : Playable s₀ tape total) where
-  pub going-start : {l₀ : List ℕ} → Bytes s₀ → Bytes tape → Progress s₀ tape total l₀ s₀ l₀ noCounts 0 0
-  unfolding countsFrom
+  pub going-start : {l₀ : List ℕ} → Bytes s₀ → Bytes tape → Progress s₀ tape total l₀ s₀ l₀ noCounts noTraffic 0 0
+  unfolding countsFrom trafficFrom
   going-start small small-tape =
       record {
         ready = ready;
@@ -68,6 +72,7 @@ module _ {s₀ tape : List ℕ} {total : ℕ} (ready : Playable s₀ tape total)
         above = none-above-start;
         ran = ran-none (ready .image-fine) small;
         counts = refl;
+        traffic = refl;
         long = refl;
       }
 
@@ -78,6 +83,14 @@ module _ {s₀ tape : List ℕ} {total : ℕ} (ready : Playable s₀ tape total)
   few-counts {k} h =
       none-above-le (omega (arith, first-long ready h))
       (counts-few (firstEvents tape k) (stateIn s₀) 0 none-above-start)
+
+  -- and no more requests than two an event, no more departures than one
+  few-traffic : {k : ℕ} → k ≤ total
+      → (trafficFrom (stateIn s₀) (firstEvents tape k) .requests ≤ k + k)
+      × (trafficFrom (stateIn s₀) (firstEvents tape k) .departures ≤ k)
+  few-traffic {k} h =
+      let few = list-few (firstEvents tape k) (stateIn s₀) in
+      (omega (arith, first-long ready h, few .0), omega (arith, first-long ready h, few .1))
 
   -- n events of block b come next
   block-more : (b n : ℕ) → n ≤ 63 → 63 * b + n ≤ total
@@ -96,8 +109,8 @@ module _ {s₀ tape : List ℕ} {total : ℕ} (ready : Playable s₀ tape total)
       rw (there, next, block, slot, here, before, tabulate-more (λ j. eventIn tape (slotAt b 0 + 8 * j)) 0 n)
       (append-assoc (firstEvents tape (63 * b)) (eventsFrom tape (slotAt b 0) n) _)
 
-module _ {s₀ tape : List ℕ} {total : ℕ} {l₀ s l : List ℕ} {c : Counts} {at k : ℕ}
-    (g : Progress s₀ tape total l₀ s l c at k) where
+module _ {s₀ tape : List ℕ} {total : ℕ} {l₀ s l : List ℕ} {c : Counts} {u : Traffic} {at k : ℕ}
+    (g : Progress s₀ tape total l₀ s l c u at k) where
   -- ---- what stays true of the image
 
   pub stands : Stands s₀ (firstEvents tape k) s
@@ -111,6 +124,12 @@ module _ {s₀ tape : List ℕ} {total : ℕ} {l₀ s l : List ℕ} {c : Counts}
       (events.event-fits codes (sizeIn s₀) tape (g .ready .tape-fine) (g .tape-small) i inside))
 
   -- ---- one block more
+
+  -- the traffic so far is little
+  pub traffic-small : (u .requests < 2 ^ 63) × (u .departures < 2 ^ 63)
+  traffic-small =
+      let few = few-traffic (g .ready) (g .within) in
+      rw (g .traffic) (omega (arith, few .0, g .few, g .within), omega (arith, few .1, g .few, g .within))
 
   module _ {end : ℕ} (ends : Ends k total end) where
     -- they start a block
@@ -155,17 +174,23 @@ module _ {s₀ tape : List ℕ} {total : ℕ} {l₀ s l : List ℕ} {c : Counts}
         let to : k + (end - k) ≡ end = omega arith in
         rw there (rw (from, to) at (block-more (g .ready) b (end - k) (omega arith) (omega (arith, start))))
 
-    pub going-on : {c' : Counts} {s' l' : List ℕ} {t : Tally} → Tallied (stateIn s) block t
-        → Ran k (12 * c .records) s l block s' l' → length l' ≡ length l → c' ≡ added c (t .counts)
-        → Progress s₀ tape total l₀ s' l' c' (at + 8 + 8 * (end - k)) end
-    going-on {c'} tallied ran long more =
+    pub going-on : {c' : Counts} {u' : Traffic} {s' l' : List ℕ} {word : ℕ} → Tallied (stateIn s) block word
+        → Ran k (12 * c .records) s l block s' l' → length l' ≡ length l → c' ≡ added c word
+        → u' ≡ together u (trafficIn word)
+        → Progress s₀ tape total l₀ s' l' c' u' (at + 8 + 8 * (end - k)) end
+    going-on {c'} {u'} tallied ran long counts-more traffic-more =
         let behind : 12 * c .records ≡ 0 + 12 * countsFrom noCounts (stateIn s₀) (firstEvents tape k) .records =
         rw (g .counts) (omega arith) in
         let counted : c' ≡ countsFrom noCounts (stateIn s₀) (firstEvents tape end) =
-        more
+        counts-more
         ∙ tallied .counts c
         ∙ rw (stands .state, g .counts, first-more)
         (sym (counts-joined (firstEvents tape k) block (stateIn s₀) noCounts)) in
+        let carried : u' ≡ trafficFrom (stateIn s₀) (firstEvents tape end) =
+        traffic-more
+        ∙ ap₂ together (g .traffic) (tallied .traffic ∙ ap (λ (st : State). trafficFrom st block) (stands .state))
+        ∙ sym (traffic-joined (firstEvents tape k) block (stateIn s₀))
+        ∙ ap (trafficFrom (stateIn s₀)) (sym first-more) in
         record {
           ready = g .ready;
           start-small = g .start-small;
@@ -180,15 +205,18 @@ module _ {s₀ tape : List ℕ} {total : ℕ} {l₀ s l : List ℕ} {c : Counts}
               (ran-joined (firstEvents tape k) block (stands .state) (g .long)
               (omega (arith, first-long (g .ready) (g .within))) behind (g .ran) ran);
           counts = counted;
+          traffic = carried;
           long = long ∙ g .long;
         }
 
   -- ---- no event left
 
   pub played : total ≤ k
-      → (c ≡ countsFrom noCounts (stateIn s₀) (firstEvents tape total))
+      → Tells (stateIn s₀) (firstEvents tape total) (record { counts = c; traffic = u })
       × ((s ≡ imageWith s₀ (after (stateIn s₀) (firstEvents tape total)))
       × Recorded (firstRecords s₀ tape total) l₀ l)
   played end =
       let all : k ≡ total = omega (arith, g .within) in
-      (rw all at (g .counts), (rw all at (g .ran .image), λ enough. (rw all at (g .ran .records)) (omega arith)))
+      let told : Tells (stateIn s₀) (firstEvents tape k) (record { counts = c; traffic = u }) =
+      record { counts = g .counts; traffic = g .traffic } in
+      (rw all at told, (rw all at (g .ran .image), λ enough. (rw all at (g .ran .records)) (omega arith)))

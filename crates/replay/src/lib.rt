@@ -4,22 +4,30 @@
 // run is refused. Document 01, "The run".
 use little_endian::wide;
 use machine::Counts;
+use machine::Traffic;
 use span::copy;
+use turns::added_to;
+use turns::carried_to;
 use turns::turns;
 ghost use mathlib.Core.Path.{_≡_};
 ghost use lib.Dec.{leb};
 ghost use lib.ListN.{length};
 ghost use Rattle.machine.specs.Image.{stateIn, imageWith};
 ghost use Rattle.machine.specs.Run.{noCounts, countsFrom, after};
-ghost use Rattle.replay.specs.Playable.{Playable, Recorded, firstEvents, firstRecords};
+ghost use Rattle.replay.specs.Playable.{Playable, Tells, Recorded, firstEvents, firstRecords};
+
+// What the events came to: their counts, and their traffic.
+pub struct Played {
+    pub counts: Counts,
+    pub traffic: Traffic,
+}
 
 // Internal: the first `events` events of the tape, one after the other; a run asks for all. The ledger gets their
 // records where it has room for all. Each turn of the loop is a block: its events, 63 or what is left, stand 8 bytes
 // apart, and 8 bytes stand before them.
-pub fn replay(image: &mut [u8], tape: &[u8], events: usize, ledger: &mut [u8]) -> Counts
+pub fn replay(image: &mut [u8], tape: &[u8], events: usize, ledger: &mut [u8]) -> Played
     requires { ⌜ Playable (now image) (now tape) events ⌝ }
-    ensures answer { λ r. ⌜ r
-        ≡ countsFrom noCounts (stateIn (now (image .entry))) (firstEvents (now (tape .entry)) events) ⌝ }
+    ensures answer { λ r. ⌜ Tells (stateIn (now (image .entry))) (firstEvents (now (tape .entry)) events) r ⌝ }
     ensures buffer { λ _. ⌜ now (image .exit) ≡ imageWith (now (image .entry))
         (after (stateIn (now (image .entry))) (firstEvents (now (tape .entry)) events)) ⌝ }
     ensures records { λ _. ⌜ Recorded (firstRecords (now (image .entry)) (now (tape .entry)) events)
@@ -34,6 +42,10 @@ pub fn replay(image: &mut [u8], tape: &[u8], events: usize, ledger: &mut [u8]) -
         got: 0,
         idle: 0,
         records: 0,
+    };
+    let mut traffic = Traffic {
+        requests: 0,
+        departures: 0,
     };
     let mut at = 0;
     let mut k = 0;
@@ -50,11 +62,15 @@ pub fn replay(image: &mut [u8], tape: &[u8], events: usize, ledger: &mut [u8]) -
             ledger,
             12 * counts.records as usize,
         );
-        counts = block.added_to(counts);
+        counts = added_to(counts, block);
+        traffic = carried_to(traffic, block);
         at += 8 * (end - k);
         k = end;
     }
-    counts
+    Played {
+        counts: counts,
+        traffic: traffic,
+    }
 }
 
 // How many records the first `events` events of the tape have, performed on a copy of the image, with a ledger that
@@ -68,8 +84,8 @@ fn measure(image: &[u8], tape: &[u8], events: usize) -> u64
     let mut none = [0u8; 1];
     let bytes = 16 + 8 * wide(image[0]);
     copy(image, 0, &mut spare, 0, bytes);
-    let counts = replay(&mut spare, tape, events, &mut none);
-    counts.records
+    let played = replay(&mut spare, tape, events, &mut none);
+    played.counts.records
 }
 
 // Internal: whether a ledger of so many bytes has room for the records of the first `events` events, 12 bytes each.

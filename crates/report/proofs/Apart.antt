@@ -2,16 +2,18 @@
 use Prim.Native.Nat.{ℕ}
 use mathlib.Core.Path.{_≡_, refl, sym, ap, _∙_}
 use mathlib.Core.Bool.{Bool}
-use mathlib.Core.List.{List, [], _∷_}
+use mathlib.Core.List.{List, [], _∷_, _++_}
 use native.Mathlib.Omega.{arith}
 use lib.ListN.{getD}
 use lib.Dec.{eqb}
 use Rattle.machine.specs.declared.Counts.{Counts}
+use Rattle.machine.specs.declared.Traffic.{Traffic}
 use Rattle.machine.specs.declared.Refusal.{Refusal}
 use Rattle.machine.specs.declared.Verdict.{Verdict}
 use Rattle.machine.specs.declared.Verdict.the-variants.{Fine, Refused}
 use Rattle.machine.specs.Bytes.{bit}
 use Rattle.machine.specs.Run.{countValues}
+use Rattle.machine.specs.Traffic.{trafficValues}
 use Rattle.machine.specs.Answers.{Answer, answer}
 use Rattle.machine.specs.Report.{refusalLine, textBy}
 use Rattle.machine.proofs.Laws.Bits.{bit-is}
@@ -37,8 +39,10 @@ done-fine Fine values e = refl
 done-fine (Refused r) values e = absurd (omega (arith, number-same e, number-range r))
 
 -- the counts are those of the rule
-pub same-counts : (c d : Counts) → answer Fine (countValues c) ≡ answer Fine (countValues d) → c ≡ d
-same-counts c d e =
+pub same-counts : (c d : Counts) (t u : Traffic)
+    → answer Fine (countValues c ++ trafficValues t) ≡ answer Fine (countValues d ++ trafficValues u)
+    → c ≡ d
+same-counts c d t u e =
     λ i.
     record {
       puts = value-same 0 e i;

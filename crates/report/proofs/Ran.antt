@@ -10,6 +10,7 @@ use native.Mathlib.Omega.{arith}
 use lib.ListN.{length, getD, drop, replicate, length-replicate, List·getD-append}
 use borrow.Author.Tests.{le-leb}
 use Rattle.machine.specs.declared.Counts.{Counts}
+use Rattle.machine.specs.declared.Traffic.{Traffic}
 use Rattle.machine.specs.declared.Refusal.{Refusal}
 use Rattle.machine.specs.declared.Verdict.{Verdict}
 use Rattle.machine.specs.declared.Verdict.the-variants.{Fine, Refused}
@@ -17,6 +18,7 @@ use Rattle.machine.specs.Bytes.{Bytes, bit, littleEndian, number, splice}
 use Rattle.machine.specs.Image.{sizeIn, stateIn, imageWith}
 use Rattle.machine.specs.Stopped as rule
 use Rattle.machine.specs.Run.{noCounts, countsFrom, countValues, ledgerFrom, after}
+use Rattle.machine.specs.Traffic.{trafficFrom, trafficValues}
 use Rattle.machine.specs.Refusals.{orElse, codes, imageVerdict, tapeVerdict, outputVerdict}
 use Rattle.machine.specs.Answers.{answer, runEvents, runRecords, runVerdict, runAnswer, runImage, runLedger}
 use Rattle.machine.specs.Answers.{stoppedAnswer}
@@ -76,6 +78,13 @@ module _ (s tape ledger : List ℕ) (fine : imageVerdict s ≡ Fine) (few : leng
   abbrev counts : Counts
   counts = countsFrom noCounts (stateIn s) (runEvents tape)
 
+  abbrev carried : Traffic
+  carried = trafficFrom (stateIn s) (runEvents tape)
+
+  -- what the run answers when it is done
+  abbrev values : List ℕ
+  values = countValues counts ++ trafficValues carried
+
   -- an accepted tape has at most 4,032 events
   records-most : tested ≡ Fine → counts .records ≤ 4032
   records-most accepted =
@@ -100,25 +109,25 @@ module _ (s tape ledger : List ℕ) (fine : imageVerdict s ≡ Fine) (few : leng
               rw (le-leb (length (runRecords s tape)) (length ledger) (omega (arith, length-records s tape, room)))
 
   module _ (a : RunAnswer) (says : run.inNumbers a ≡ runAnswer s tape ledger) where
-    told-as : run.inNumbers a ≡ answer tested (countValues counts)
+    told-as : run.inNumbers a ≡ answer tested values
     unfolding runAnswer
-    told-as = says ∙ ap (λ (v : Verdict). answer v (countValues counts)) tape-decides
+    told-as = says ∙ ap (λ (v : Verdict). answer v values) tape-decides
 
     -- a refusal is the tape's
     pub run-refused : {q r : Refusal} → a ≡ run-answer.Refused q → r ≡ run.refusalOf a
         → refusalLine r ≡ textBy tested (ranText (stateIn s) (runEvents tape))
     run-refused {r = r} is found =
-        refused-line tested (countValues counts) (ranText (stateIn s) (runEvents tape)) r
+        refused-line tested values (ranText (stateIn s) (runEvents tape)) r
         (rw (found ∙ ap run.refusalOf is) (sym (ap run.inNumbers is) ∙ told-as))
 
-    module _ {c : Counts} (is : a ≡ run-answer.Done c) where
+    module _ {c : Counts} {u : Traffic} (is : a ≡ run-answer.Done c u) where
       accepted : tested ≡ Fine
-      accepted = done-fine tested (countValues counts) (sym (ap run.inNumbers is) ∙ told-as)
+      accepted = done-fine tested values (sym (ap run.inNumbers is) ∙ told-as)
 
       same : c ≡ counts
       same =
-          same-counts c counts
-          (sym (ap run.inNumbers is) ∙ told-as ∙ ap (λ (v : Verdict). answer v (countValues counts)) accepted)
+          same-counts c counts u carried
+          (sym (ap run.inNumbers is) ∙ told-as ∙ ap (λ (v : Verdict). answer v values) accepted)
 
       -- so many lines are written at most
       pub records-few-told : c .records ≤ 4032

@@ -62,7 +62,7 @@ fn run_text(image: &mut [u8], tape: &[u8], page: &mut [u8]) -> usize
 {
     let mut ledger = [0; 48384];
     let ran = run(image, tape, &mut ledger);
-    let RunAnswer::Done(counts) = ran else {
+    let RunAnswer::Done(counts, _) = ran else {
         return put_refusal(page, ran.refusal());
     };
     let at_rest = stopped(image);

@@ -8,11 +8,13 @@ use lib.ListN.{length, replicate}
 use lib.Dec.{lit≤}
 use Rattle.machine.specs.declared.Counts.{Counts}
 use Rattle.machine.specs.declared.Outcome.{Outcome}
+use Rattle.machine.specs.declared.Traffic.{Traffic}
 use Rattle.machine.specs.declared.Refusal.{Refusal}
 use Rattle.machine.specs.declared.Verdict.{Verdict}
 use Rattle.machine.specs.Bytes.{splice}
 use Rattle.machine.specs.Image.{sizeIn}
 use Rattle.machine.specs.Run.{outcomeNumber, outcomeMessage, countValues}
+use Rattle.machine.specs.Traffic.{trafficValues}
 use Rattle.machine.specs.Refusals.{numberOf, placeOf, orElse, codes, imageVerdict, tapeVerdict}
 use Rattle.machine.specs.Answers.{outcomeValues, stepVerdict, stepAnswer, stepImage}
 use Rattle.machine.specs.Answers.{runRecords, runVerdict, runAnswer, runImage, runLedger, stoppedAnswer}
@@ -57,13 +59,14 @@ module _ (image event result : List ℕ) where
         refused-left result room image left r (rw (found ∙ ap step.refusalOf is) (sym (ap step.inNumbers is) ∙ says))
         number wrote
 
-    pub step-done : {number message : ℕ} {u : List ℕ} (o : Outcome) → a ≡ step-answer.Done o
-        → number ≡ outcomeNumber o → message ≡ outcomeMessage o
-        → u ≡ splice result 0 (wordsOf (number ∷ message ∷ replicate 8 0))
+    pub step-done : {number message : ℕ} {u : List ℕ} (o : Outcome) (put-out : Traffic)
+        → a ≡ step-answer.Done o put-out → number ≡ outcomeNumber o → message ≡ outcomeMessage o
+        → u ≡ splice result 0 (wordsOf (number ∷ message ∷ (trafficValues put-out ++ replicate 6 0)))
         → Stepped 0 t u
-    step-done o is number message wrote =
-        done-left result room image left (outcomeValues o) (sym (ap step.inNumbers is) ∙ says)
-        (told-in-ten result (outcomeValues o) (lit≤ tt) (rw (number, message) at wrote))
+    step-done o put-out is number message wrote =
+        let values = outcomeValues o ++ trafficValues put-out in
+        done-left result room image left values (sym (ap step.inNumbers is) ∙ says)
+        (told-in-ten result values (lit≤ tt) (rw (number, message) at wrote))
 
 -- ---- run
 
@@ -110,13 +113,14 @@ module _ (image tape ledger result : List ℕ) where
           ran (refused-told result room r (rw (found ∙ ap run.refusalOf is) (sym (ap run.inNumbers is) ∙ says))
           number wrote)
 
-      pub run-done : {u : List ℕ} (c : Counts) → a ≡ run-answer.Done c
-          → u ≡ splice result 0 (wordsOf (countValues c ++ replicate 2 0))
+      pub run-done : {u : List ℕ} (c : Counts) (carried : Traffic) → a ≡ run-answer.Done c carried
+          → u ≡ splice result 0 (wordsOf (countValues c ++ trafficValues carried))
           → Ran 0 t l u
-      run-done c is wrote =
+      run-done c carried is wrote =
+          let values = countValues c ++ trafficValues carried in
           ran
-          (done-told result room (countValues c) (sym (ap run.inNumbers is) ∙ says)
-          (told-in-ten result (countValues c) (lit≤ tt) wrote))
+          (done-told result room values (sym (ap run.inNumbers is) ∙ says)
+          (told-in-ten result values (lit≤ tt) wrote))
 
 -- ---- stopped
 

@@ -10,7 +10,7 @@ ghost use mathlib.Core.Path.{_≡_};
 ghost use Rattle.machine.specs.Answers.{runAnswer, runImage, runLedger};
 ghost use Rattle.machine.specs.Host.{returned, resultAfter, lentWith};
 
-// The run call: the eight counts are told.
+// The run call: the eight counts are told, then the traffic.
 #[no_mangle]
 pub extern "C" fn ring_run(
     image: &mut [u8],
@@ -34,7 +34,7 @@ pub extern "C" fn ring_run(
         return short(inputs_verdict(image, tape));
     }
     let answer = run(image, tape, ledger);
-    let RunAnswer::Done(counts) = answer else {
+    let RunAnswer::Done(counts, traffic) = answer else {
         return refused(result, answer.refusal());
     };
     let words = [
@@ -46,8 +46,8 @@ pub extern "C" fn ring_run(
         counts.got,
         counts.idle,
         counts.records,
-        0,
-        0,
+        traffic.requests,
+        traffic.departures,
     ];
     tell(result, &words);
     0

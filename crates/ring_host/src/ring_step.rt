@@ -12,7 +12,7 @@ ghost use mathlib.Core.Path.{_≡_};
 ghost use Rattle.machine.specs.Answers.{stepAnswer, stepImage};
 ghost use Rattle.machine.specs.Host.{returned, resultAfter, lentWith};
 
-// The step call: the outcome's number and message are told.
+// The step call: the outcome's number and message are told, then the traffic.
 #[no_mangle]
 pub extern "C" fn ring_step(image: &mut [u8], event: &[u8], result: &mut [u8]) -> u64
     ensures number { λ r. ⌜ r
@@ -26,12 +26,23 @@ pub extern "C" fn ring_step(image: &mut [u8], event: &[u8], result: &mut [u8]) -
         return short(step_verdict(image, event));
     }
     let answer = step(image, event);
-    let StepAnswer::Done(outcome) = answer else {
+    let StepAnswer::Done(outcome, traffic) = answer else {
         return refused(result, answer.refusal());
     };
     let number = outcome_number(outcome) as u64;
     let message = outcome_message(outcome) as u64;
-    let words = [number, message, 0, 0, 0, 0, 0, 0, 0, 0];
+    let words = [
+        number,
+        message,
+        traffic.requests,
+        traffic.departures,
+        0,
+        0,
+        0,
+        0,
+        0,
+        0,
+    ];
     tell(result, &words);
     0
 }

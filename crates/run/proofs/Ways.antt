@@ -3,25 +3,26 @@
 use Prim.Native.Nat.{ℕ, _/_, _≤_}
 use mathlib.Core.Path.{_≡_, sym, _∙_}
 use mathlib.Core.Bool.{Bool, true, false}
-use mathlib.Core.List.{List, []}
+use mathlib.Core.List.{List, [], _++_}
 use native.Mathlib.Omega.{arith}
 use lib.ListN.{length}
 use lib.Dec.{leb}
 use borrow.Author.Tests.{leb-true, leb-false}
-use Rattle.machine.specs.declared.Counts.{Counts}
 use Rattle.machine.specs.declared.Refusal.{Refusal}
 use Rattle.machine.specs.declared.Refusal.the-variants as refusal
 use Rattle.machine.specs.declared.Verdict.{Verdict}
 use Rattle.machine.specs.declared.Verdict.the-variants as verdict
 use Rattle.machine.specs.Image.{sizeIn, stateIn, imageWith}
-use Rattle.machine.specs.Run.{noCounts, countsFrom, countValues, after}
+use Rattle.machine.specs.Run.{countValues, after}
+use Rattle.machine.specs.Traffic.{trafficValues}
 use Rattle.machine.specs.Refusals.{orElse, codes, imageVerdict, tapeVerdict}
 use Rattle.machine.specs.Answers.{Answer, answer, runRecords, runVerdict, runAnswer, runImage, runLedger}
 use Rattle.machine.proofs.Laws.Refusals.{first-fine, second-fine, inputs-refuse, output-refuses, all-fine}
 use Rattle.tape_test.specs.Accepted.{eventsOn, Accepted}
 use Rattle.tape_test.proofs.Blocks.{tape-fine}
 use Rattle.tape_test.proofs.Lengths.{events-ranged}
-use Rattle.replay.specs.Playable.{Playable, Recorded, firstEvents, firstRecords}
+use Rattle.replay.specs.declared.Played.{Played}
+use Rattle.replay.specs.Playable.{Playable, Tells, Recorded, firstEvents, firstRecords}
 use Rattle.replay.proofs.First.{all-events, all-records}
 
 module _ (s tape ledger : List ℕ) where
@@ -74,16 +75,18 @@ module _ (s tape ledger : List ℕ) where
           (output-refuses (imageVerdict s) (tapeVerdict codes (sizeIn s) tape) _ ledger fine
           (leb-false _ _ (sym measured ∙ short)))
 
-      pub run-done : room ≡ true → {n : Counts} {image records : List ℕ}
-          → n ≡ countsFrom noCounts (stateIn s) (firstEvents tape events)
+      pub run-done : room ≡ true → {p : Played} {image records : List ℕ}
+          → Tells (stateIn s) (firstEvents tape events) p
           → image ≡ imageWith s (after (stateIn s) (firstEvents tape events))
           → Recorded (firstRecords s tape events) ledger records
-          → Meets (answer verdict.Fine (countValues n)) image records
+          → Meets (answer verdict.Fine (countValues (p .counts) ++ trafficValues (p .traffic))) image records
       unfolding runAnswer runImage runLedger runVerdict
-      run-done enough counts wrote entered =
+      run-done enough came-to wrote entered =
           let fits = leb-true _ _ (sym measured ∙ enough) in
           let is =
           all-fine (imageVerdict s) (tapeVerdict codes (sizeIn s) tape) (length (runRecords s tape)) ledger fine fits in
           let every = all-events tape all in
-          let records = all-records tape all s in
-          (rw (counts, every, is), (wrote ∙ rw (every, is), (rw records at entered) fits ∙ rw is))
+          let records = all-records tape all s in (
+            rw (came-to .counts, came-to .traffic, every, is),
+            (wrote ∙ rw (every, is), (rw records at entered) fits ∙ rw is),
+          )

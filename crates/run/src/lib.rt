@@ -4,6 +4,7 @@ use event::Event;
 use little_endian::wide;
 use machine::Counts;
 use machine::Refusal;
+use machine::Traffic;
 use machine::Verdict;
 use numbers::refusal_of;
 use replay::has_room;
@@ -19,7 +20,7 @@ ghost use Rattle.run.specs.Run.{inNumbers, refusalOf};
 
 // What the run call answers.
 pub enum RunAnswer {
-    Done(Counts),
+    Done(Counts, Traffic),
     Refused(Refusal),
 }
 
@@ -48,8 +49,8 @@ pub fn inputs_verdict(image: &[u8], tape: &[u8]) -> Verdict
     tape_verdict(tape, wide(image[0]), Event::CODES)
 }
 
-// The run call: the eight counts, the image after every event, and the records at the start of the ledger, whose
-// further bytes stay; or the refusal of its inputs' verdict, or 10 for a ledger that is too short.
+// The run call: the eight counts and the traffic, the image after every event, and the records at the start of the
+// ledger, whose further bytes stay; or the refusal of its inputs' verdict, or 10 for a ledger that is too short.
 pub fn run(image: &mut [u8], tape: &[u8], ledger: &mut [u8]) -> RunAnswer
     ensures answer { λ r. ⌜ inNumbers r
         ≡ runAnswer (now (image .entry)) (now (tape .entry)) (now (ledger .entry)) ⌝ }
@@ -66,6 +67,8 @@ pub fn run(image: &mut [u8], tape: &[u8], ledger: &mut [u8]) -> RunAnswer
     if !has_room(image, tape, events, ledger.len()) {
         return RunAnswer::Refused(Refusal::Output);
     }
-    let counts = replay(image, tape, events, ledger);
-    RunAnswer::Done(counts)
+    let played = replay(image, tape, events, ledger);
+    let counts = played.counts;
+    let traffic = played.traffic;
+    RunAnswer::Done(counts, traffic)
 }

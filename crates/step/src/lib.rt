@@ -1,19 +1,25 @@
 // The step call: an image and one event. Document 01, "The eight events".
 use event::Event;
+use little_endian::number_at;
 use little_endian::wide;
 use machine::Outcome;
 use machine::Refusal;
+use machine::Traffic;
 use machine::Verdict;
 use numbers::refusal_of;
 use sound::image_verdict;
+use turns::traffic_in;
 use turns::turns;
 ghost use mathlib.Core.Path.{_≡_};
+ghost use Prim.Native.Nat.{_%_, _≤_};
+ghost use lib.ListN.{length, getD};
+ghost use Rattle.machine.specs.Bytes.{number};
 ghost use Rattle.machine.specs.Answers.{stepVerdict, stepAnswer, stepImage};
-ghost use Rattle.step.specs.Step.{inNumbers, refusalOf};
+ghost use Rattle.step.specs.Step.{inNumbers, refusalOf, outcomeRead};
 
 // What the step call answers.
 pub enum StepAnswer {
-    Done(Outcome),
+    Done(Outcome, Traffic),
     Refused(Refusal),
 }
 
@@ -40,7 +46,28 @@ pub fn step_verdict(image: &[u8], event: &[u8]) -> Verdict
     Event::verdict(event, wide(image[0]))
 }
 
-// The step call: the event's outcome, and the image as the event leaves it; or the refusal of its verdict.
+// The outcome of one event, from its word of counts and a ledger of zeros with room for its record: idle is counted,
+// and where there is no record something moved.
+fn outcome_in(word: u64, ledger: &[u8]) -> Outcome
+    requires { ⌜ 12 ≤ length (now ledger) ⌝ }
+    ensures { λ r. ⌜ r
+        ≡ outcomeRead (word % 128) (getD (now (ledger .entry)) 5 0) (number (now (ledger .entry)) 8 4) ⌝ }
+{
+    if word % 128 == 1 {
+        return Outcome::Idle;
+    }
+    let message = number_at(ledger, 8);
+    match ledger[5] {
+        2 => Outcome::Fill(message),
+        3 => Outcome::Take(message),
+        4 => Outcome::Sent,
+        5 => Outcome::Got,
+        _ => Outcome::Moved,
+    }
+}
+
+// The step call: the event's outcome and its traffic, and the image as the event leaves it; or the refusal of its
+// verdict.
 pub fn step(image: &mut [u8], event: &[u8]) -> StepAnswer
     ensures answer { λ r. ⌜ inNumbers r ≡ stepAnswer (now (image .entry)) (now (event .entry)) ⌝ }
     ensures buffer { λ _. ⌜ now (image .exit) ≡ stepImage (now (image .entry)) (now (event .entry)) ⌝ }
@@ -49,9 +76,8 @@ pub fn step(image: &mut [u8], event: &[u8]) -> StepAnswer
     let Verdict::Fine = verdict else {
         return StepAnswer::Refused(refusal_of(verdict));
     };
-    // a run of one event, with a ledger too short for a record
-    let mut none = [0u8; 1];
-    let done = turns(image, event, 0, 0, 1, &mut none, 0);
-    let outcome = done.last;
-    StepAnswer::Done(outcome)
+    // a run of one event
+    let mut ledger = [0u8; 12];
+    let word = turns(image, event, 0, 0, 1, &mut ledger, 0);
+    StepAnswer::Done(outcome_in(word, &ledger), traffic_in(word))
 }

@@ -6,7 +6,6 @@ use mathlib.Core.List.{List, [], _∷_, _++_, append-assoc}
 use native.Mathlib.Omega.{arith}
 use lib.ListN.{length, getD, length-append}
 use Rattle.machine.specs.declared.Counts.{Counts}
-use Rattle.machine.specs.declared.Outcome.{Outcome}
 use Rattle.machine.specs.declared.Verdict.the-variants.{Fine}
 use Rattle.machine.specs.Bytes.{Bytes}
 use Rattle.machine.specs.Image.{State, sizeIn, stateIn}
@@ -16,27 +15,16 @@ use Rattle.machine.specs.Refusals.{imageVerdict}
 use Rattle.machine.proofs.Laws.Bytes.{splice-next}
 use Rattle.machine.proofs.Laws.Lists.{all-each}
 use Rattle.machine.proofs.Soundness.Kept.{image-over}
-use Rattle.machine.proofs.Runs.{fitting, length-after, none-left, events-continue}
+use Rattle.machine.proofs.Runs.{fitting, length-after, after-joined, none-left, events-continue}
 use Rattle.machine.proofs.Tallies.{length-ledger}
 use Rattle.machine.proofs.Laws.Splices.{splice-none}
-use Rattle.turns.specs.Turns.{lastFrom, Ran}
-
-after-joined : (vs ws : List Event) (st : State) → after st (vs ++ ws) ≡ after (after st vs) ws
-unfolding after
-after-joined [] ws st = refl
-after-joined (v ∷ vs) ws st = after-joined vs ws (apply st v)
+use Rattle.turns.specs.Turns.{Ran}
 
 pub counts-joined : (vs ws : List Event) (st : State) (c : Counts)
     → countsFrom c st (vs ++ ws) ≡ countsFrom (countsFrom c st vs) (after st vs) ws
 unfolding after countsFrom
 counts-joined [] ws st c = refl
 counts-joined (v ∷ vs) ws st c = counts-joined vs ws (apply st v) (counted (v .code) (outcome st v) c)
-
-pub last-joined : (vs ws : List Event) (st : State) (o : Outcome)
-    → lastFrom o st (vs ++ ws) ≡ lastFrom (lastFrom o st vs) (after st vs) ws
-unfolding after lastFrom
-last-joined [] ws st o = refl
-last-joined (v ∷ vs) ws st o = last-joined vs ws (apply st v) (outcome st v)
 
 ledger-joined : (vs ws : List Event) (st : State) (k : ℕ)
     → ledgerFrom k st (vs ++ ws) ≡ ledgerFrom k st vs ++ ledgerFrom (k + length vs) (after st vs) ws

@@ -1,11 +1,11 @@
--- The events half done: the image, the ledger, the counts, the last outcome and the place of the next record are what
--- the events so far come to; one event more is another one performed, and in the end they are all.
+-- The events half done: the image, the ledger, the word of counts and the place of the next record are what the events
+-- so far come to; one event more is another one performed, and in the end they are all.
 --
 -- A step is such a list of one event, and a run one list a block. A turn is idle, moves something without a record, or
--- has one, told apart by its outcome's number (Ways); it adds to the word what the rule adds to the counts, and no byte
--- of it carries, since a block has at most 63 events (Packed). No turn tests the image again: it is accepted after
--- every event (machine/proofs/Runs). A record without room is left out, so nothing need be known of the ledger before.
--- What events leave, and what others leave that come behind them, is what all of them leave (Joined).
+-- has one, told apart by its outcome's number (Ways); it adds to the word what the rule adds to counts and traffic, and
+-- no part of it carries, since a block has at most 63 events (Packed). No turn tests the image again: it is accepted
+-- after every event (machine/proofs/Runs). A record without room is left out, so nothing need be known of the ledger
+-- before. What events leave, and what others leave that come behind them, is what all of them leave (Joined).
 use Prim.Native.Nat.{ℕ, _+_, _-_, _*_, _^_, _≤_, _<_}
 use mathlib.Core.Path.{_≡_, refl, sym, ap, _∙_}
 use mathlib.Core.Bool.{true}
@@ -16,13 +16,14 @@ use lib.ListN.{length}
 use lib.Dec.{leb}
 use borrow.Author.Tests.{leb-true, lt-ltb}
 use Rattle.machine.specs.declared.Outcome.{Outcome}
-use Rattle.machine.specs.declared.Outcome.the-variants.{Idle}
+use Rattle.machine.specs.declared.Traffic.{Traffic}
 use Rattle.machine.specs.Bytes.{Bytes, splice}
 use Rattle.machine.specs.Lists.{tabulate}
-use Rattle.machine.specs.Image.{sizeIn, stateIn}
+use Rattle.machine.specs.Image.{State, sizeIn, stateIn}
 use Rattle.machine.specs.Events.{Event, outcome}
 use Rattle.machine.specs.Tape.{eventIn}
 use Rattle.machine.specs.Run.{ledgerEntry, ledgerFrom, noCounts, counted, countsFrom, after}
+use Rattle.machine.specs.Traffic.{traffic, together, trafficFrom}
 use Rattle.machine.specs.Refusals.{codes, eventFits}
 use Rattle.machine.proofs.Laws.Bytes.{length-splice, number-lt}
 use Rattle.machine.proofs.Laws.Lists.{length-tabulate, getD-tabulate, tabulate-more}
@@ -30,16 +31,17 @@ use Rattle.machine.proofs.Laws.Refusals.{fits-process}
 use Rattle.machine.proofs.Soundness.Ways.{by-test}
 use Rattle.machine.proofs.Soundness.Kept.{imageAfter}
 use Rattle.machine.proofs.Tallies.{length-entry}
+use Rattle.machine.proofs.LinkTraffic.{requests-few, departures-few, traffic-one, traffic-joined}
 use Rattle.ledger.specs.Record.{enteredIn}
 use Rattle.ledger.proofs.Ways.{has-room}
-use Rattle.turns.specs.Turns.{eventsFrom, lastFrom, Turning, Tallied, Ran}
-use Rattle.turns.proofs.Joined.{counts-joined, last-joined, nobody, Stands, ran-stands, ran-none, ran-joined}
-use Rattle.turns.proofs.Packed.{weight, Packed, packed-none, packed-more, added-is}
+use Rattle.turns.specs.Turns.{eventsFrom, Turning, Tallied, Ran}
+use Rattle.turns.proofs.Joined.{counts-joined, nobody, Stands, ran-stands, ran-none, ran-joined}
+use Rattle.turns.proofs.Packed.{weight, Packed, packed-none, packed-more, traffic-is, added-is}
 
--- before event k, which stands at `at` and has n events before it: the image s, the ledger l, the counts in a word, the
--- last outcome, and the place of the next record
-pub record Progress (s₀ bytes : List ℕ) (start first end : ℕ) (l₀ : List ℕ) (from : ℕ) (s l : List ℕ) (word : ℕ)
-    (last : Outcome) (place k at : ℕ) : Type 0 where
+-- before event k, which stands at `at` and has n events before it: the image s, the ledger l, the word of counts, and
+-- the place of the next record
+pub record Progress (s₀ bytes : List ℕ) (start first end : ℕ) (l₀ : List ℕ) (from : ℕ) (s l : List ℕ)
+    (word place k at : ℕ) : Type 0 where
   pub ready : Turning s₀ bytes start first end from
   pub n : ℕ
   pub number : k ≡ first + n
@@ -51,7 +53,7 @@ pub record Progress (s₀ bytes : List ℕ) (start first end : ℕ) (l₀ : List
   pub long : length l ≡ length l₀
   pub behind : place ≡ from + 12 * countsFrom noCounts (stateIn s₀) (eventsFrom bytes start n) .records
   pub packed : Packed n word (countsFrom noCounts (stateIn s₀) (eventsFrom bytes start n))
-  pub latest : last ≡ lastFrom Idle (stateIn s₀) (eventsFrom bytes start n)
+      (trafficFrom (stateIn s₀) (eventsFrom bytes start n))
 
 -- a ledger keeps its length
 entered-long : (l : List ℕ) (place : ℕ) (entry : List ℕ) → length (enteredIn l place entry) ≡ length l
@@ -61,8 +63,8 @@ entered-long l place entry =
 
 pub going-start : {s₀ bytes : List ℕ} {start first end : ℕ} {l₀ : List ℕ} {from : ℕ}
     → Turning s₀ bytes start first end from → Bytes s₀ → Bytes bytes
-    → Progress s₀ bytes start first end l₀ from s₀ l₀ 0 Idle from first start
-unfolding tabulate countsFrom lastFrom
+    → Progress s₀ bytes start first end l₀ from s₀ l₀ 0 from first start
+unfolding tabulate countsFrom trafficFrom
 going-start ready small small-bytes =
     record {
       ready = ready;
@@ -76,11 +78,10 @@ going-start ready small small-bytes =
       long = refl;
       behind = omega arith;
       packed = packed-none;
-      latest = refl;
     }
 
-module _ {s₀ bytes : List ℕ} {start first end : ℕ} {l₀ : List ℕ} {from : ℕ} {s l : List ℕ} {word : ℕ} {last : Outcome}
-    {place k at : ℕ} (g : Progress s₀ bytes start first end l₀ from s l word last place k at) where
+module _ {s₀ bytes : List ℕ} {start first end : ℕ} {l₀ : List ℕ} {from : ℕ} {s l : List ℕ}
+    {word place k at : ℕ} (g : Progress s₀ bytes start first end l₀ from s l word place k at) where
   -- the events so far
   abbrev done : List Event
   done = eventsFrom bytes start (g .n)
@@ -107,12 +108,15 @@ module _ {s₀ bytes : List ℕ} {start first end : ℕ} {l₀ : List ℕ} {from
   -- ---- one event more
 
   module _ (next : k < end) where
-    -- the event, its outcome, and what it adds to the ledger
+    -- the event, its outcome and traffic, and what it adds to the ledger
     abbrev event : Event
     event = eventIn bytes at
 
     abbrev said : Outcome
     said = outcome (stateIn s) event
+
+    abbrev put-out : Traffic
+    put-out = traffic (stateIn s) event
 
     abbrev entry : List ℕ
     entry = ledgerEntry k (event .process) said
@@ -131,9 +135,15 @@ module _ {s₀ bytes : List ℕ} {start first end : ℕ} {l₀ : List ℕ} {from
     unfolding countsFrom
     counts-more = rw (stands .state) (counts-joined done (event ∷ []) (stateIn s₀) noCounts)
 
+    traffic-more : trafficFrom (stateIn s₀) (done ++ (event ∷ [])) ≡ together (trafficFrom (stateIn s₀) done) put-out
+    traffic-more =
+        traffic-joined done (event ∷ []) (stateIn s₀)
+        ∙ ap (together (trafficFrom (stateIn s₀) done))
+        (traffic-one (after (stateIn s₀) done) event ∙ ap (λ (st : State). traffic st event) (sym (stands .state)))
+
     pub going-on : Progress s₀ bytes start first end l₀ from (imageAfter s event) (enteredIn l place entry)
-        (word + weight (event .code) said) said (place + length entry) (k + 1) (at + 8)
-    unfolding after ledgerFrom lastFrom counted
+        (word + weight (event .code) said put-out) (place + length entry) (k + 1) (at + 8)
+    unfolding after ledgerFrom counted
     going-on =
         let one : Ran k place s l (event ∷ []) (imageAfter s event) (enteredIn l place entry) =
         record { image = refl; records = rw (append-nil entry) (has-room l place entry) } in
@@ -151,16 +161,19 @@ module _ {s₀ bytes : List ℕ} {start first end : ℕ} {l₀ : List ℕ} {from
               (g .behind) (g .ran) one);
           long = entered-long l place entry ∙ g .long;
           behind = rw (done-more, counts-more) (omega (arith, g .behind, length-entry k (event .process) said));
-          packed = rw (done-more, counts-more) (packed-more (event .code) said (g .packed));
-          latest = rw (done-more, stands .state) (sym (last-joined done (event ∷ []) (stateIn s₀) Idle));
+          packed =
+              rw (done-more, counts-more, traffic-more)
+              (packed-more (event .code) said put-out (requests-few (stateIn s) event)
+              (departures-few (stateIn s) event) (g .packed));
         }
 
   -- ---- no event left
 
   pub gone : end ≤ k
-      → Tallied (stateIn s₀) (eventsFrom bytes start (end - first)) (record { counts = word; last = last })
+      → Tallied (stateIn s₀) (eventsFrom bytes start (end - first)) word
       × Ran first from s₀ l₀ (eventsFrom bytes start (end - first)) s l
   gone none =
       let all-done : end - first ≡ g .n = omega (arith, g .number, g .within) in
-      let counts = added-is done (stateIn s₀) (g .packed) (omega (arith, g .ready .few)) in
-      rw all-done (record { counts = counts; last = g .latest }, g .ran)
+      let few : g .n ≤ 63 = omega (arith, g .ready .few) in
+      rw all-done
+      (record { counts = added-is done (stateIn s₀) (g .packed) few; traffic = traffic-is (g .packed) few }, g .ran)

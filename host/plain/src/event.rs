@@ -7,6 +7,7 @@
 use crate::answer::Refusal;
 use crate::image::*;
 use crate::put::Put;
+use crate::traffic::Traffic;
 
 /// Codes of the two events that reach beyond the record of their process.
 const MAIN_WORKS: u64 = 2;
@@ -20,11 +21,20 @@ pub const TAKE: u64 = 3;
 pub const SENT: u64 = 4;
 pub const GOT: u64 = 5;
 
-/// The outcome of an event, with the message of a fill or a take (else 0).
+/// The outcome of an event, with the message of a fill or a take (else 0), and its traffic.
 #[derive(Clone, Copy)]
 pub struct Outcome {
     pub kind: u64,
     pub message: u64,
+    pub traffic: Traffic,
+}
+
+impl Outcome {
+    /// Of an event that sends nothing: all but put.
+    #[inline(always)]
+    fn quiet(kind: u64, message: u64) -> Outcome {
+        Outcome { kind, message, traffic: Traffic::NONE }
+    }
 }
 
 /// The process of an event.
@@ -105,17 +115,17 @@ pub fn perform<const FAULT: u8>(envelope: &mut Envelope, records: &mut [[u8; 8]]
     let record = u64::from_le_bytes(records[process]);
     let possible = (change.stages >> (record & 15) & 1) | u64::from(record & change.tested != 0);
     if possible == 0 {
-        return Outcome { kind: IDLE, message: 0 };
+        return Outcome::quiet(IDLE, 0);
     }
     let record = (record & !change.cleared | change.set | event & NOTE) + change.added;
     if code == PUT {
-        return Put::<FAULT> { envelope, records, process, record }.perform();
+        return Put::<FAULT> { envelope, records, process, record, traffic: Traffic::NONE }.perform();
     }
     if code == MAIN_WORKS {
         return main_works(envelope, &mut records[process], record);
     }
     records[process] = record.to_le_bytes();
-    Outcome { kind: MOVED, message: 0 }
+    Outcome::quiet(MOVED, 0)
 }
 
 /// Main's work, its stage already taken on: in stage 4 it fills the envelope with the note, in
@@ -126,10 +136,10 @@ fn main_works(envelope: &mut Envelope, own: &mut [u8; 8], record: u64) -> Outcom
     if record & STAGE == 4 {
         envelope.word |= FULL;
         envelope.message = record >> 32;
-        return Outcome { kind: FILL, message: envelope.message };
+        return Outcome::quiet(FILL, envelope.message);
     }
     let message = envelope.message;
     envelope.word &= !FULL;
     envelope.message = 0;
-    Outcome { kind: TAKE, message }
+    Outcome::quiet(TAKE, message)
 }

@@ -1,5 +1,5 @@
 //! The ring of processes with one envelope, a second time: plain Rust written from document 01
-//! alone, and the load, the tape of no events and the survey from document 02.
+//! alone, and the load, the tape of no events, the survey and the traffic from document 02.
 //!
 //! It is the other side of the differential tests, the baseline of the benchmark, and says what
 //! ringrun must print for its samples. It shares nothing with the proved library, has no `unsafe`, and
@@ -9,6 +9,7 @@
 //! - `image`: the bits of an image, its parts, the fresh ring, stopped ("The image", "Stopped"),
 //! - `walk`: the one walk over an image's records, soundness, flags and marks (document 02, A.3),
 //! - `event`: one event, tested and performed ("The eight events"),
+//! - `traffic`: what an event, or a run of them, sends (document 02, A.4),
 //! - `put`: what put does (event 7),
 //! - `tape`: the blocks, their check and test, writer and reader ("The tape"),
 //! - `load`: the tape of events that are drawn from a seed (document 02, A.1),
@@ -30,13 +31,15 @@ mod put;
 mod report;
 mod run;
 mod tape;
+mod traffic;
 mod walk;
 
 use answer::{answer, Refusal, LEAST_RESULT, OUTPUT_TOO_SHORT};
+use event::Outcome;
 use image::Ring;
 
 /// The planted faults, from 1 on, in their order.
-pub const FAULTS: [&str; 23] = [
+pub const FAULTS: [&str; 27] = [
     "the right of the last of 37 processes is process 1",
     "an absorbed request does not set 'asked itself'",
     "put clears after it has forwarded",
@@ -60,29 +63,34 @@ pub const FAULTS: [&str; 23] = [
     "a survey's sets have process 0 as their highest digit",
     "a survey counts arriving flags in sound images only",
     "a survey takes 65 processes for a ring",
+    "a request that a waiting one absorbs is not counted",
+    "two requests of one event are counted as one",
+    "the departure of a put that ends is not counted",
+    "a run's traffic is that of its last event",
 ];
 
-/// Step: performs one event. The result gets the outcome and its message.
+/// Step: performs one event. The result gets the outcome and its message, then its traffic.
 pub fn ring_step<const FAULT: u8>(image: &mut [u8], event: &[u8], result: &mut [u8]) -> u64 {
     let done = step::<FAULT>(image, event, result.len());
-    answer::<FAULT>(result, done)
+    answer::<FAULT, _>(result, done)
 }
 
 /// Inlined where it is called, or its answer goes through memory: 30 of some 250 instructions.
 #[inline(always)]
-fn step<const FAULT: u8>(image: &mut [u8], event: &[u8], result: usize) -> Result<[u64; 8], Refusal> {
+fn step<const FAULT: u8>(image: &mut [u8], event: &[u8], result: usize) -> Result<[u64; 4], Refusal> {
     let mut ring = Ring::sound::<FAULT>(image)?;
     let event = event::single(ring.envelope.size(), event)?;
     room_for_result(result)?;
     let outcome = event::perform::<FAULT>(&mut ring.envelope, ring.records, event);
     ring.envelope.store(ring.header);
-    Ok([outcome.kind, outcome.message, 0, 0, 0, 0, 0, 0])
+    let Outcome { kind, message, traffic } = outcome;
+    Ok([kind, message, traffic.requests(), traffic.departures()])
 }
 
-/// Run: performs every event of a tape. The result gets the eight counts.
+/// Run: performs every event of a tape. The result gets the eight counts, then the traffic of all.
 pub fn ring_run<const FAULT: u8>(image: &mut [u8], tape: &[u8], ledger: &mut [u8], result: &mut [u8]) -> u64 {
     let done = whole_run::<FAULT>(image, tape, ledger, result.len());
-    answer::<FAULT>(result, done)
+    answer::<FAULT, _>(result, done)
 }
 
 fn whole_run<const FAULT: u8>(
@@ -90,7 +98,7 @@ fn whole_run<const FAULT: u8>(
     tape: &[u8],
     ledger: &mut [u8],
     result: usize,
-) -> Result<[u64; 8], Refusal> {
+) -> Result<[u64; 10], Refusal> {
     let ring = Ring::sound::<FAULT>(image)?;
     let tape = tape::tested::<FAULT>(ring.envelope.size(), tape)?;
     room_for_result(result)?;
@@ -100,40 +108,40 @@ fn whole_run<const FAULT: u8>(
 /// Stopped: 1 if no event of the codes 2 to 7 is possible, else 0.
 pub fn ring_stopped<const FAULT: u8>(image: &[u8], result: &mut [u8]) -> u64 {
     let done = stopped::<FAULT>(image, result.len());
-    answer::<FAULT>(result, done)
+    answer::<FAULT, _>(result, done)
 }
 
-fn stopped<const FAULT: u8>(image: &[u8], result: usize) -> Result<[u64; 8], Refusal> {
+fn stopped<const FAULT: u8>(image: &[u8], result: usize) -> Result<[u64; 1], Refusal> {
     let (_, records) = image::sound::<FAULT>(image)?;
     room_for_result(result)?;
     let yes = u64::from(image::stopped::<FAULT>(records));
-    Ok([yes, 0, 0, 0, 0, 0, 0, 0])
+    Ok([yes])
 }
 
 /// Survey: what the walk over the records of an image finds, sound or not. The result gets the number and the place of
 /// the refusal that step, run and stopped have for the image, 0 and 0 if it is sound; then flags and both sets.
 pub fn ring_survey<const FAULT: u8>(image: &[u8], result: &mut [u8]) -> u64 {
     let done = survey::<FAULT>(image, result.len());
-    answer::<FAULT>(result, done)
+    answer::<FAULT, _>(result, done)
 }
 
-fn survey<const FAULT: u8>(image: &[u8], result: usize) -> Result<[u64; 8], Refusal> {
+fn survey<const FAULT: u8>(image: &[u8], result: usize) -> Result<[u64; 5], Refusal> {
     let most = if FAULT == 23 { 65 } else { image::MOST_SIZE };
     let (envelope, records) = image::parts(image, most)?;
     room_for_result(result)?;
     let found = walk::walk::<FAULT>(envelope, records);
     let verdict = found.verdict().err().unwrap_or(Refusal { number: 0, place: 0 });
     let digits = |set: u64| if FAULT == 21 { set.reverse_bits() >> (64 - records.len()) } else { set };
-    Ok([verdict.number, verdict.place, found.flags, digits(found.full), digits(found.empty), 0, 0, 0])
+    Ok([verdict.number, verdict.place, found.flags, digits(found.full), digits(found.empty)])
 }
 
 /// Fresh ring: zeros, then N and the home's have flag. The result gets zeros.
 pub fn ring_fresh<const FAULT: u8>(n: u64, home: u64, image: &mut [u8], result: &mut [u8]) -> u64 {
     let done = fresh(n, home, image, result.len());
-    answer::<FAULT>(result, done)
+    answer::<FAULT, _>(result, done)
 }
 
-fn fresh(n: u64, home: u64, image: &mut [u8], result: usize) -> Result<[u64; 8], Refusal> {
+fn fresh(n: u64, home: u64, image: &mut [u8], result: usize) -> Result<[u64; 0], Refusal> {
     let size = size_argument(n)?;
     if home >= n {
         return Err(Refusal { number: 2, place: 0 });
@@ -141,44 +149,44 @@ fn fresh(n: u64, home: u64, image: &mut [u8], result: usize) -> Result<[u64; 8],
     let image = image::buffer_for(size, image)?;
     room_for_result(result)?;
     image::fill_fresh(size, home as usize, image);
-    Ok([0; 8])
+    Ok([])
 }
 
 /// Writer: turns a list of events for N into a tape. The result gets the bytes filled.
 pub fn ring_write<const FAULT: u8>(n: u64, list: &[u8], output: &mut [u8], result: &mut [u8]) -> u64 {
     let done = write::<FAULT>(n, list, output, result.len());
-    answer::<FAULT>(result, done)
+    answer::<FAULT, _>(result, done)
 }
 
-fn write<const FAULT: u8>(n: u64, list: &[u8], output: &mut [u8], result: usize) -> Result<[u64; 8], Refusal> {
+fn write<const FAULT: u8>(n: u64, list: &[u8], output: &mut [u8], result: usize) -> Result<[u64; 1], Refusal> {
     let list = tape::tested_list::<FAULT>(size_argument(n)?, list)?;
     let output = tape::output_for_tape(list.len(), output)?;
     room_for_result(result)?;
     tape::write::<FAULT>(list, output);
-    Ok([output.len() as u64 * 512, 0, 0, 0, 0, 0, 0, 0])
+    Ok([output.len() as u64 * 512])
 }
 
 /// Reader: turns a tape into its list of events. The result gets the bytes filled.
 pub fn ring_read<const FAULT: u8>(n: u64, tape: &[u8], output: &mut [u8], result: &mut [u8]) -> u64 {
     let done = read::<FAULT>(n, tape, output, result.len());
-    answer::<FAULT>(result, done)
+    answer::<FAULT, _>(result, done)
 }
 
-fn read<const FAULT: u8>(n: u64, tape: &[u8], output: &mut [u8], result: usize) -> Result<[u64; 8], Refusal> {
+fn read<const FAULT: u8>(n: u64, tape: &[u8], output: &mut [u8], result: usize) -> Result<[u64; 1], Refusal> {
     let tape = tape::tested::<FAULT>(size_argument(n)?, tape)?;
     let output = tape::output_for_list(tape, output)?;
     room_for_result(result)?;
     tape::read(tape, output);
-    Ok([output.len() as u64, 0, 0, 0, 0, 0, 0, 0])
+    Ok([output.len() as u64])
 }
 
 /// Load: makes the tape of so many events for N, drawn from a seed. The result gets the bytes filled.
 pub fn ring_load<const FAULT: u8>(n: u64, seed: u64, count: u64, output: &mut [u8], result: &mut [u8]) -> u64 {
     let done = load::<FAULT>(n, seed, count, output, result.len());
-    answer::<FAULT>(result, done)
+    answer::<FAULT, _>(result, done)
 }
 
-fn load<const FAULT: u8>(n: u64, seed: u64, count: u64, output: &mut [u8], result: usize) -> Result<[u64; 8], Refusal> {
+fn load<const FAULT: u8>(n: u64, seed: u64, count: u64, output: &mut [u8], result: usize) -> Result<[u64; 1], Refusal> {
     let size = size_argument(n)?;
     if FAULT == 17 {
         load::tested_count(count)?;
@@ -188,7 +196,7 @@ fn load<const FAULT: u8>(n: u64, seed: u64, count: u64, output: &mut [u8], resul
     let output = tape::output_for_tape(count, output)?;
     room_for_result(result)?;
     load::write::<FAULT>(size, generator, count, output);
-    Ok([output.len() as u64 * 512, 0, 0, 0, 0, 0, 0, 0])
+    Ok([output.len() as u64 * 512])
 }
 
 /// The text that the program ringrun prints for its whole standard input.

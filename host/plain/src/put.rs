@@ -2,16 +2,18 @@
 
 use crate::event::{Outcome, GOT, MOVED, SENT};
 use crate::image::*;
+use crate::traffic::Traffic;
 
 const RIGHT_ASKED: u64 = RIGHT_ASKED_FULL | RIGHT_ASKED_EMPTY;
 const GONE_WITH_ENVELOPE: u64 = HAVE | RIGHT_ASKED | ASKED_FULL | ASKED_EMPTY;
 
-/// A put at work: the ring, its process, and the record of it, which is written last.
+/// A put at work: the ring, its process, the record of it, which is written last, and what it has sent.
 pub struct Put<'a, const FAULT: u8> {
     pub envelope: &'a mut Envelope,
     pub records: &'a mut [[u8; 8]],
     pub process: usize,
     pub record: u64,
+    pub traffic: Traffic,
 }
 
 impl<const FAULT: u8> Put<'_, FAULT> {
@@ -20,7 +22,7 @@ impl<const FAULT: u8> Put<'_, FAULT> {
     pub fn perform(mut self) -> Outcome {
         let kind = if self.record & HAVE == 0 { self.without_envelope() } else { self.with_envelope() };
         self.records[self.process] = self.record.to_le_bytes();
-        Outcome { kind, message: 0 }
+        Outcome { kind, message: 0, traffic: self.traffic }
     }
 
     /// Stages 0, 1, 6 pass requests; 2 and 7 ask for themselves first. The others have the
@@ -61,6 +63,9 @@ impl<const FAULT: u8> Put<'_, FAULT> {
             return MOVED;
         }
         self.record &= !STAGE;
+        if FAULT == 26 {
+            self.traffic = Traffic::NONE;
+        }
         SENT
     }
 
@@ -80,6 +85,11 @@ impl<const FAULT: u8> Put<'_, FAULT> {
         let waiting = u64::from_le_bytes(*left);
         *left = (waiting | asking << 4).to_le_bytes();
         self.record |= if FAULT == 2 { asking & !(waiting >> 4) } else { asking };
+        self.traffic = Traffic::of_requests(match FAULT {
+            24 => asking & !(waiting >> 4),
+            25 if asking & ASKED_FULL != 0 => ASKED_FULL,
+            _ => asking,
+        });
     }
 
     #[inline(always)]
@@ -126,6 +136,7 @@ impl<const FAULT: u8> Put<'_, FAULT> {
         self.record &= !GONE_WITH_ENVELOPE;
         let right = &mut self.records[right_of::<FAULT>(self.process, self.envelope.size())];
         *right = (u64::from_le_bytes(*right) | ARRIVING).to_le_bytes();
+        self.traffic = Traffic::DEPARTURE;
         true
     }
 }

@@ -25,10 +25,10 @@ pub fn text<const FAULT: u8>(input: &[u8]) -> Vec<u8> {
     text.into_bytes()
 }
 
-/// What a run from the fresh ring gives beside its ledger: the eight counts, and whether the ring is
-/// then stopped.
+/// What a run from the fresh ring gives beside its ledger: its words, of which the text has some, and
+/// whether the ring is then stopped.
 struct End {
-    counts: [u64; 8],
+    run: [u64; 10],
     stopped: bool,
 }
 
@@ -41,9 +41,9 @@ fn played<const FAULT: u8>(input: &[u8], ledger: &mut [u8]) -> Result<End, Refus
     if tape.len() > 512 * MOST_BLOCKS {
         return Err(Refusal { number: 6, place: 0 });
     }
-    let counts = whole_run::<FAULT>(&mut image, tape, ledger, LEAST_RESULT)?;
-    let [yes, ..] = stopped::<FAULT>(&image, LEAST_RESULT)?;
-    Ok(End { counts, stopped: yes == 1 })
+    let run = whole_run::<FAULT>(&mut image, tape, ledger, LEAST_RESULT)?;
+    let [yes] = stopped::<FAULT>(&image, LEAST_RESULT)?;
+    Ok(End { run, stopped: yes == 1 })
 }
 
 /// N, home and the tape; where N or home is missing it is 0.
@@ -56,12 +56,12 @@ fn parts(input: &[u8]) -> (u64, u64, &[u8]) {
 }
 
 impl End {
-    /// A line for each record, the counts but that of the records, then stopped or moving.
+    /// A line for each record, the counts but that of the records, then stopped or moving; no traffic.
     fn text(&self, ledger: &[u8]) -> String {
-        let [.., records] = self.counts;
+        let [.., records, _, _] = self.run;
         let (ledger, _) = ledger.as_chunks::<12>();
         let mut text: String = ledger[..records as usize].iter().map(line).collect();
-        let counts = COUNTED.iter().zip(self.counts).map(|(name, count)| format!("{name} {count}"));
+        let counts = COUNTED.iter().zip(self.run).map(|(name, count)| format!("{name} {count}"));
         text += &counts.collect::<Vec<String>>().join(" ");
         text + if self.stopped { "\nstopped\n" } else { "\nmoving\n" }
     }

@@ -1,15 +1,16 @@
-//! The run: all events of a tested tape, the ledger and the eight counts ("The run").
+//! The run: all events of a tested tape, the ledger, the eight counts ("The run") and the traffic.
 
 use crate::answer::{Refusal, OUTPUT_TOO_SHORT};
 use crate::event::{code, perform, process, Outcome, FILL, IDLE};
 use crate::image::{Envelope, Ring};
 use crate::tape::{events_of, used_slots, Block};
+use crate::traffic::Traffic;
 
 const RECORD: usize = 12;
 
 /// Performs every event of a tape, or refuses a ledger without room for the records. A ledger that
 /// could be too short is measured first, on a copy of the image.
-pub fn run<const FAULT: u8>(ring: Ring, tape: &[Block], ledger: &mut [u8]) -> Result<[u64; 8], Refusal> {
+pub fn run<const FAULT: u8>(ring: Ring, tape: &[Block], ledger: &mut [u8]) -> Result<[u64; 10], Refusal> {
     let events = events_of(tape);
     if FAULT == 20 && events == 0 {
         ledger.iter_mut().take(1).for_each(|byte| *byte = 0);
@@ -21,9 +22,10 @@ pub fn run<const FAULT: u8>(ring: Ring, tape: &[Block], ledger: &mut [u8]) -> Re
         }
     }
     let mut envelope = ring.envelope;
-    let counts = perform_all::<FAULT, true>(&mut envelope, ring.records, tape, ledger);
+    let (counts, traffic) = perform_all::<FAULT, true>(&mut envelope, ring.records, tape, ledger);
     envelope.store(ring.header);
-    Ok(counts.words::<FAULT>(events))
+    let [puts, gets, fills, takes, sent, got, idle, records] = counts.words::<FAULT>(events);
+    Ok([puts, gets, fills, takes, sent, got, idle, records, traffic.requests(), traffic.departures()])
 }
 
 /// The records that a run will write.
@@ -32,7 +34,8 @@ fn measured<const FAULT: u8>(ring: &Ring, tape: &[Block]) -> usize {
     let records = &mut copy[..ring.records.len()];
     records.copy_from_slice(ring.records);
     let mut envelope = ring.envelope;
-    perform_all::<FAULT, false>(&mut envelope, records, tape, &mut []).records()
+    let (counts, _) = perform_all::<FAULT, false>(&mut envelope, records, tape, &mut []);
+    counts.records()
 }
 
 /// What a run counts as it goes; events in all are known beforehand.
@@ -68,8 +71,9 @@ fn perform_all<const FAULT: u8, const WRITTEN: bool>(
     records: &mut [[u8; 8]],
     tape: &[Block],
     ledger: &mut [u8],
-) -> Counts {
+) -> (Counts, Traffic) {
     let mut counts = Counts::default();
+    let mut traffic = Traffic::NONE;
     let (ledger, _) = ledger.as_chunks_mut::<RECORD>();
     let mut ledger = ledger.iter_mut();
     let mut number = 0;
@@ -86,13 +90,17 @@ fn perform_all<const FAULT: u8, const WRITTEN: bool>(
                     write_record::<FAULT>(ledger.next(), number, process(event), outcome);
                 }
             }
+            if FAULT == 27 {
+                traffic = Traffic::NONE;
+            }
+            traffic += outcome.traffic;
             if FAULT == 7 {
                 counts.last_idle = outcome.kind == IDLE;
             }
             number += 1;
         }
     }
-    counts
+    (counts, traffic)
 }
 
 /// Writes one record; the ledger has been found to have room for it.

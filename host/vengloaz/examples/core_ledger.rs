@@ -50,7 +50,7 @@ fn reference(input: &[u8]) -> Result<Vec<u8>, Box<dyn Error>> {
     let tape = input.get(2..).unwrap_or_default();
     let mut image = fresh(number(0), number(1))?;
     let mut ledger = vec![0; tape.len() / 512 * 756];
-    let counts = run(&mut image, tape, &mut ledger)?;
+    let counts = run(&mut image, tape, &mut ledger)?.counts;
     ledger.truncate(counts.ledger_bytes());
     println!("{counts}, {}", if stopped(&image)? { "stopped" } else { "moving" });
     Ok(ledger)

@@ -1,4 +1,5 @@
-//! What a call answers when it isn't refused: a step's outcome, a run's counts, a survey's findings.
+//! What a call answers when it isn't refused: a step's outcome and a run's counts, each with the traffic, and a
+//! survey's findings.
 
 use std::fmt;
 
@@ -68,7 +69,50 @@ impl Outcome {
     }
 }
 
-/// What a run did: eight counts, each of this run alone.
+/// What went out on the links, by one event or by all events of a run.
+///
+/// Only put sends anything. A request is counted where it is made, and so is one that finds another for the same status
+/// waiting on the link, and is absorbed by it; what a process has asked for before it doesn't ask again, and doesn't
+/// count.
+///
+/// ```
+/// use vengloaz::{fresh, step, Event, Refusal, Traffic};
+///
+/// let mut image = fresh(2, 0)?;
+/// for event in [Event::get(1), Event::new(1, 3)] {
+///     assert_eq!(step(&mut image, event)?.traffic, Traffic::default());
+/// }
+/// let asked = step(&mut image, Event::new(1, 7))?; // process 1 wants the full envelope
+/// assert_eq!(asked.traffic, Traffic { requests: 1, departures: 0 });
+/// # Ok::<(), Refusal>(())
+/// ```
+#[derive(Clone, Copy, Debug, Default, PartialEq, Eq, Hash)]
+pub struct Traffic {
+    /// Requests put on the link to the left; of one event 0 to 2.
+    pub requests: u64,
+    /// Times that the envelope left for the right; of one event 0 or 1.
+    pub departures: u64,
+}
+
+/// What a step did.
+#[derive(Clone, Copy, Debug, PartialEq, Eq, Hash)]
+pub struct Stepped {
+    /// What became of the event.
+    pub outcome: Outcome,
+    /// What it sent; nothing if it was idle.
+    pub traffic: Traffic,
+}
+
+/// What a run did.
+#[derive(Clone, Copy, Debug, Default, PartialEq, Eq, Hash)]
+pub struct Ran {
+    /// Its events, counted.
+    pub counts: Counts,
+    /// What all of them sent.
+    pub traffic: Traffic,
+}
+
+/// The events of a run by what they did: eight counts, each of this run alone.
 #[derive(Clone, Copy, Debug, Default, PartialEq, Eq, Hash)]
 pub struct Counts {
     /// Puts started: events of code 0 that weren't idle.

@@ -1,7 +1,7 @@
 //! The calls of the reference, with types.
 
 use crate::result_slice::ResultSlice;
-use crate::{raw, Counts, Event, Findings, Outcome, Refusal};
+use crate::{raw, Event, Findings, Ran, Refusal, Stepped};
 
 /// The bytes of a block, and of the events that it has room for.
 const BLOCK: usize = 512;
@@ -35,7 +35,8 @@ pub fn fresh(n: u64, home: u64) -> Result<Vec<u8>, Refusal> {
     Ok(image)
 }
 
-/// Performs one event on an image. One that isn't possible is [`Outcome::Idle`] and changes no byte.
+/// Performs one event on an image. One that isn't possible is [`Outcome::Idle`](crate::Outcome::Idle), changes no byte
+/// and sends nothing.
 ///
 /// # Errors
 ///
@@ -45,18 +46,25 @@ pub fn fresh(n: u64, home: u64) -> Result<Vec<u8>, Refusal> {
 /// # Examples
 ///
 /// ```
-/// use vengloaz::{fresh, step, Event, Outcome, Refusal};
+/// use vengloaz::{fresh, step, Event, Outcome, Refusal, Stepped, Traffic};
 ///
 /// let mut image = fresh(2, 0)?;
-/// assert_eq!(step(&mut image, Event::new(1, 7)), Ok(Outcome::Idle)); // no news
-/// assert_eq!(step(&mut image, Event::put(1, 7)), Ok(Outcome::Moved));
-/// assert_eq!(step(&mut image, Event::put(1, 8)), Ok(Outcome::Idle)); // not idle itself
+/// assert_eq!(step(&mut image, Event::new(1, 7))?.outcome, Outcome::Idle); // no news
+/// assert_eq!(step(&mut image, Event::put(1, 7))?.outcome, Outcome::Moved);
+/// assert_eq!(step(&mut image, Event::put(1, 8))?.outcome, Outcome::Idle); // not idle itself
 /// assert_eq!(step(&mut image, Event::new(2, 3)), Err(Refusal::Event { place: 0 }));
 /// assert_eq!(step(&mut image[..31], Event::new(1, 3)), Err(Refusal::ImageShort));
+///
+/// step(&mut image, Event::new(1, 3))?;
+/// let asks = step(&mut image, Event::new(1, 7))?; // its left, process 0, for the empty envelope
+/// assert_eq!(asks, Stepped { outcome: Outcome::Moved, traffic: Traffic { requests: 1, departures: 0 } });
+/// step(&mut image, Event::new(0, 6))?;
+/// let forwards = step(&mut image, Event::new(0, 7))?;
+/// assert_eq!(forwards, Stepped { outcome: Outcome::Moved, traffic: Traffic { requests: 0, departures: 1 } });
 /// # Ok::<(), Refusal>(())
 /// ```
-pub fn step(image: &mut [u8], event: Event) -> Result<Outcome, Refusal> {
-    Ok(ResultSlice::of(|result| raw::ring_step(image, &event.to_bytes(), result))?.outcome())
+pub fn step(image: &mut [u8], event: Event) -> Result<Stepped, Refusal> {
+    Ok(ResultSlice::of(|result| raw::ring_step(image, &event.to_bytes(), result))?.stepped())
 }
 
 /// Performs every event of a tape on an image and writes a record for each fill, take, sent and
@@ -65,8 +73,8 @@ pub fn step(image: &mut [u8], event: Event) -> Result<Outcome, Refusal> {
 /// The ledger needs 12 bytes for each record of this run and no more; its further bytes keep their
 /// values, and [`records`](crate::records) reads it. With room for a record an event, 12 bytes each, the
 /// run is quicker, since it needn't count its records first. A block has up to 63 events, so
-/// `tape.len() / 512 * 756` bytes always do. A tape of no bytes has no events: all counts are 0, image and ledger stay
-/// as they are, and the image has been tested.
+/// `tape.len() / 512 * 756` bytes always do. A tape of no bytes has no events: all counts are 0 and so is the traffic,
+/// image and ledger stay as they are, and the image has been tested.
 ///
 /// # Errors
 ///
@@ -78,7 +86,7 @@ pub fn step(image: &mut [u8], event: Event) -> Result<Outcome, Refusal> {
 /// # Examples
 ///
 /// ```
-/// use vengloaz::{fresh, records, run, write, Event, Outcome, Record, Refusal};
+/// use vengloaz::{fresh, records, run, write, Event, Outcome, Ran, Record, Refusal, Traffic};
 ///
 /// let list = "1.0(7) 1.3 1.7 0.6 0.7 1.4 1.7 1.2 1.3 1.7 0.1 0.3 0.7 1.5 1.7 0.4 0.7 0.2 0.3 0.7";
 /// let events = list.split(' ').map(str::parse).collect::<Result<Vec<Event>, _>>()?;
@@ -86,8 +94,9 @@ pub fn step(image: &mut [u8], event: Event) -> Result<Outcome, Refusal> {
 ///
 /// let mut image = fresh(2, 0)?;
 /// let mut ledger = vec![0; 12 * events.len()];
-/// let counts = run(&mut image, &tape, &mut ledger)?;
+/// let Ran { counts, traffic } = run(&mut image, &tape, &mut ledger)?;
 /// assert_eq!((counts.puts, counts.gets, counts.idle, counts.records), (1, 1, 0, 4));
+/// assert_eq!(traffic, Traffic { requests: 2, departures: 2 });
 ///
 /// let lines: Vec<Record> = records(&ledger[..counts.ledger_bytes()]).collect();
 /// assert_eq!(lines[0], Record { event: 7, process: 1, outcome: Outcome::Fill(7) });
@@ -100,8 +109,8 @@ pub fn step(image: &mut [u8], event: Event) -> Result<Outcome, Refusal> {
 /// assert_eq!(refused, Err(Refusal::OutputShort));
 /// # Ok::<(), Box<dyn std::error::Error>>(())
 /// ```
-pub fn run(image: &mut [u8], tape: &[u8], ledger: &mut [u8]) -> Result<Counts, Refusal> {
-    Ok(ResultSlice::of(|result| raw::ring_run(image, tape, ledger, result))?.counts())
+pub fn run(image: &mut [u8], tape: &[u8], ledger: &mut [u8]) -> Result<Ran, Refusal> {
+    Ok(ResultSlice::of(|result| raw::ring_run(image, tape, ledger, result))?.ran())
 }
 
 /// Tells whether a ring is stopped: no event of the codes 2 to 7 is possible, so that no main work,

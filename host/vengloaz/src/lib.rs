@@ -2,11 +2,11 @@
 //!
 //! The package calls a proved library and adds nothing to it but types: [`fresh`] makes the image of a
 //! fresh ring, [`step`] performs one event on an image, [`run`] performs a tape of them and writes a
-//! ledger, [`stopped`] tells whether the ring can still move by itself, [`survey`] what an image holds,
-//! sound or not, [`write()`] makes a tape of a list of events, [`read`] the list of a tape, and [`load`] a
-//! tape of events drawn from a seed. An image, a tape and a ledger are bytes, laid out as `docs/FORMATS.md`
-//! of the repository says. Every call answers with a result or a [`Refusal`], for all bytes; a refused call
-//! leaves every byte lent to it as it was.
+//! ledger, both of which tell their [`Traffic`] too, [`stopped`] tells whether the ring can still move by
+//! itself, [`survey`] what an image holds, sound or not, [`write()`] makes a tape of a list of events,
+//! [`read`] the list of a tape, and [`load`] a tape of events drawn from a seed. An image, a tape and a
+//! ledger are bytes, laid out as `docs/FORMATS.md` of the repository says. Every call answers with a
+//! result or a [`Refusal`], for all bytes; a refused call leaves every byte lent to it as it was.
 //!
 //! # A core's ledger held against the reference's
 //!
@@ -28,11 +28,12 @@
 //!
 //! let mut image = fresh(2, 0)?;
 //! let mut ledger = vec![0; 12 * events.len()];
-//! let counts = run(&mut image, &tape, &mut ledger)?;
-//! let ledger = &ledger[..counts.ledger_bytes()];
+//! let ran = run(&mut image, &tape, &mut ledger)?;
+//! let ledger = &ledger[..ran.counts.ledger_bytes()];
 //! let lines: Vec<String> = records(ledger).map(|record| record.to_string()).collect();
 //! assert_eq!(lines, ["7 1 fill 7", "14 1 sent 0", "17 0 take 7", "19 0 got 0"]);
 //! assert!(stopped(&image)?);
+//! assert_eq!((ran.traffic.requests, ran.traffic.departures), (2, 2)); // a core's links had as much to carry
 //!
 //! // A core that has sent one event too early.
 //! let mut core = ledger.to_vec();
@@ -70,7 +71,7 @@ mod refusal;
 #[cfg(any(feature = "proved", doc))]
 mod result_slice;
 
-pub use answer::{Counts, Findings, Outcome};
+pub use answer::{Counts, Findings, Outcome, Ran, Stepped, Traffic};
 #[cfg(any(feature = "proved", doc))]
 pub use calls::{fresh, load, read, run, step, stopped, survey, write};
 pub use event::{Event, ParseEventError};

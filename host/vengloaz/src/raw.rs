@@ -1,11 +1,11 @@
 //! The functions of the proved library, as they are: numbers and byte slices.
 //!
 //! What is returned is the refusal's number, and 0 if there is none. A result slice of at least 80 bytes gets ten
-//! 64-bit little-endian words at its start: outcome and message of a step, the eight counts of a run, 1 or 0 for a ring
-//! that is stopped or isn't, the findings of a survey, the bytes that the writer, the reader or the load filled, or the
-//! place of a refusal, and 0 in the words behind. In a shorter one nothing is written, and a call that is not refused
-//! otherwise is then refused with 10. The calls of the crate itself say the same with types; `include/vengloaz.h`
-//! declares the functions for C.
+//! 64-bit little-endian words at its start: outcome and message of a step, the eight counts of a run, both followed by
+//! their requests and departures, 1 or 0 for a ring that is stopped or isn't, the findings of a survey, the bytes that
+//! the writer, the reader or the load filled, or the place of a refusal, and 0 in the words behind. In a shorter one
+//! nothing is written, and a call that is not refused otherwise is then refused with 10. The calls of the crate itself
+//! say the same with types; `include/vengloaz.h` declares the functions for C.
 //!
 //! This is the one module of the package with `unsafe`. It is sound because a slice passes as its own pointer and
 //! length, because the borrows keep the slices of a call apart and alive until it returns, and because the functions,
@@ -80,8 +80,8 @@ mod exported {
     }
 }
 
-/// Performs one event on an image. Result words: the outcome (0 idle, 1 moved, 2 fill, 3 take, 4 sent, 5 got) and the
-/// message; on a refusal the place.
+/// Performs one event on an image. Result words: the outcome (0 idle, 1 moved, 2 fill, 3 take, 4 sent, 5 got), the
+/// message, the requests put on the link to the left, and 1 if the envelope left, else 0; on a refusal the place.
 ///
 /// ```
 /// use vengloaz::{fresh, raw};
@@ -93,6 +93,10 @@ mod exported {
 /// assert_eq!(image[24], 1); // process 1: send told
 /// assert_eq!(image[28], 7); // its note
 /// assert_eq!(raw::ring_step(&mut image, &[2, 0, 0, 0, 7, 0, 0, 0], &mut result), 5);
+///
+/// assert_eq!(raw::ring_step(&mut image, &[1, 3, 0, 0, 0, 0, 0, 0], &mut result), 0);
+/// assert_eq!(raw::ring_step(&mut image, &[1, 7, 0, 0, 0, 0, 0, 0], &mut result), 0);
+/// assert_eq!((result[16], result[24]), (1, 0)); // one request, no departure
 /// # Ok::<(), vengloaz::Refusal>(())
 /// ```
 pub fn ring_step(image: &mut [u8], event: &[u8], result: &mut [u8]) -> u64 {
@@ -110,15 +114,19 @@ pub fn ring_step(image: &mut [u8], event: &[u8], result: &mut [u8]) -> u64 {
 }
 
 /// Performs every event of a tape and writes the ledger. Result words: puts, gets, fills, takes, sent, got, idle,
-/// records; on a refusal the place.
+/// records, requests, departures; on a refusal the place.
 ///
 /// ```
-/// use vengloaz::{fresh, raw};
+/// use vengloaz::{fresh, raw, write, Event};
 ///
 /// let mut image = fresh(2, 0)?;
 /// let mut result = [0xff; 80];
 /// assert_eq!(raw::ring_run(&mut image, &[0; 511], &mut [], &mut result), 6);
 /// assert_eq!(result, [0; 80]); // a ragged tape has place 0
+///
+/// let tape = write(2, &[Event::get(1), Event::new(1, 3), Event::new(1, 7)])?;
+/// assert_eq!(raw::ring_run(&mut image, &tape, &mut [], &mut result), 0);
+/// assert_eq!((result[8], result[64], result[72]), (1, 1, 0)); // one get, which asks; the envelope stays
 /// # Ok::<(), vengloaz::Refusal>(())
 /// ```
 pub fn ring_run(image: &mut [u8], tape: &[u8], ledger: &mut [u8], result: &mut [u8]) -> u64 {

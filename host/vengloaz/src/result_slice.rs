@@ -1,6 +1,6 @@
 //! The result slice that the library's functions fill, read: what it tells as values.
 
-use crate::{Counts, Findings, Outcome, Refusal};
+use crate::{Counts, Findings, Outcome, Ran, Refusal, Stepped, Traffic};
 
 /// The bytes of a result slice.
 const LENGTH: usize = 80;
@@ -25,15 +25,23 @@ impl ResultSlice {
         u64::from_le_bytes(bytes)
     }
 
-    /// The outcome that a step tells.
-    pub(crate) fn outcome(&self) -> Outcome {
+    /// What a step tells.
+    pub(crate) fn stepped(&self) -> Stepped {
+        Stepped { outcome: self.outcome(), traffic: self.traffic(2) }
+    }
+
+    /// What a run tells.
+    pub(crate) fn ran(&self) -> Ran {
+        Ran { counts: self.counts(), traffic: self.traffic(8) }
+    }
+
+    fn outcome(&self) -> Outcome {
         let (number, message) = (self.word(0), self.word(1));
         Outcome::from_number(number, message as u32)
             .unwrap_or_else(|| unreachable!("the step call's contract has no outcome {number} with {message}"))
     }
 
-    /// The counts that a run tells.
-    pub(crate) fn counts(&self) -> Counts {
+    fn counts(&self) -> Counts {
         Counts {
             puts: self.word(0),
             gets: self.word(1),
@@ -44,6 +52,11 @@ impl ResultSlice {
             idle: self.word(6),
             records: self.word(7),
         }
+    }
+
+    /// The traffic told from this word on.
+    fn traffic(&self, first: usize) -> Traffic {
+        Traffic { requests: self.word(first), departures: self.word(first + 1) }
     }
 
     /// The findings that a survey tells.

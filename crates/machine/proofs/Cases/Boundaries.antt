@@ -67,12 +67,12 @@ stepCases =
     ∷ case (stepAnswer ring (event 1 0 7 ++ (0 ∷ []))) (refused 5 0)
     ∷ case (stepAnswer ring (event 2 0 7)) (refused 5 0)
     ∷ case (stepAnswer ring (event 1 8 0)) (refused 5 0)
-    ∷ case (stepAnswer ring (event 1 7 0)) (done (0 ∷ 0 ∷ []))
+    ∷ case (stepAnswer ring (event 1 7 0)) (done (0 ∷ 0 ∷ 0 ∷ 0 ∷ []))
     ∷ case (stepAnswer ring (set (event 1 0 7) 2 1)) (refused 5 0)
     ∷ case (stepAnswer ring (set (event 1 0 7) 3 1)) (refused 5 0)
     ∷ case (stepAnswer ring (event 1 1 7)) (refused 5 0)
     ∷ case (stepAnswer ring (event 1 1 16777216)) (refused 5 0)
-    ∷ case (stepAnswer ring (event 1 0 7)) (done (1 ∷ 0 ∷ []))
+    ∷ case (stepAnswer ring (event 1 0 7)) (done (1 ∷ 0 ∷ 0 ∷ 0 ∷ []))
     -- the image before the event
     ∷ case (stepAnswer (take 31 ring) []) (refused 3 0)
     ∷ case (stepAnswer unsound []) (refused 4 0)
@@ -146,11 +146,11 @@ fills = block 0 1 (event 1 2 0)
 
 abbrev runCases : List Case
 runCases =
-    case (runAnswer mayFill fills (replicate 12 0)) (done (0 ∷ 0 ∷ 1 ∷ 0 ∷ 0 ∷ 0 ∷ 0 ∷ 1 ∷ []))
+    case (runAnswer mayFill fills (replicate 12 0)) (done (0 ∷ 0 ∷ 1 ∷ 0 ∷ 0 ∷ 0 ∷ 0 ∷ 1 ∷ 0 ∷ 0 ∷ []))
     ∷ case (runAnswer mayFill fills (replicate 11 0)) (refused 10 0)
     -- a run without records takes no bytes
-    ∷ case (runAnswer ring (block 0 1 (event 1 7 0)) []) (done (0 ∷ 0 ∷ 0 ∷ 0 ∷ 0 ∷ 0 ∷ 1 ∷ 0 ∷ []))
-    ∷ case (runAnswer mayFill [] []) (done (0 ∷ 0 ∷ 0 ∷ 0 ∷ 0 ∷ 0 ∷ 0 ∷ 0 ∷ []))
+    ∷ case (runAnswer ring (block 0 1 (event 1 7 0)) []) (done (0 ∷ 0 ∷ 0 ∷ 0 ∷ 0 ∷ 0 ∷ 1 ∷ 0 ∷ 0 ∷ 0 ∷ []))
+    ∷ case (runAnswer mayFill [] []) (done (replicate 10 0))
     ∷ case (runAnswer mayFill (block 0 0 []) (replicate 12 0)) (refused 8 0)
     -- the image before the tape
     ∷ case (runAnswer (take 31 ring) ragged []) (refused 3 0)

@@ -15,6 +15,7 @@ use Rattle.machine.specs.Events.{place}
 use Rattle.machine.specs.Events.{reaction, outcome, apply}
 use Rattle.machine.specs.Stopped.{quiet, stopped}
 use Rattle.machine.specs.Run.{ledgerRecord, ledgerEntry, ledgerFrom, counted, countsFrom, after}
+use Rattle.machine.specs.Traffic.{traffic, trafficFrom}
 use Rattle.machine.specs.Balance.{filledFrom, takenFrom, totalsFrom}
 use Rattle.machine.specs.Tape.{eventIn, eventsIn, words, checkFrom, covered, usedSlots, listOf, blockBytes}
 use Rattle.machine.specs.Tape.{listBytes, slotsFor, padded, blockFor, tapeOf}
@@ -60,7 +61,7 @@ unfolding ofPut startPut startGet work signal receive takeRequest put react chan
 ofEvents = true
 
 unfoldable pub ofRun : Bool
-unfolding ledgerRecord ledgerEntry ledgerFrom counted countsFrom after
+unfolding ledgerRecord ledgerEntry ledgerFrom counted countsFrom traffic trafficFrom after
 ofRun = true
 
 unfoldable pub ofBalance : Bool

@@ -1,6 +1,7 @@
--- Each of the eight counts has its own place, in the run's answer and in ringrun's line: entries 1 and 3, and two runs
--- of entry 10's lists, in which puts ended and gets ended differ. In no two places do all four runs have the same
--- number, so that no two counts can be exchanged unseen. The checker computes it.
+-- Each of the eight counts has its own place, in the run's answer and in ringrun's line, and so have the two numbers of
+-- its traffic in the answer: entries 1 and 3, and two runs of entry 10's lists, in which puts ended and gets ended
+-- differ. In no two places do all four runs have the same number, so that no two can be exchanged unseen. The checker
+-- computes it.
 use Prim.Native.Nat.{ℕ}
 use mathlib.Core.Path.{_≡_, refl}
 use mathlib.Core.Bool.{Bool, true, not, _||_}
@@ -41,11 +42,11 @@ onwards =
 
 -- what each answers and prints
 pub counts-told :
-    (answers 2 alone ≡ 2 ∷ 1 ∷ 2 ∷ 1 ∷ 2 ∷ 1 ∷ 0 ∷ 6 ∷ [])
+    (answers 2 alone ≡ 2 ∷ 1 ∷ 2 ∷ 1 ∷ 2 ∷ 1 ∷ 0 ∷ 6 ∷ 3 ∷ 3 ∷ [])
     × (reportText (2 ∷ 0 ∷ alone)
     ≡ text "13 1 fill 2\n15 1 sent 0\n18 0 take 2\n20 0 got 0\n24 0 fill 22\n26 0 sent 0\n"
     ++ (text "puts 2 gets 1 fills 2 takes 1 sent 2 got 1 idle 0\n" ++ text "moving\n"))
-    × (answers 3 onwards ≡ 3 ∷ 3 ∷ 2 ∷ 2 ∷ 2 ∷ 1 ∷ 4 ∷ 7 ∷ [])
+    × (answers 3 onwards ≡ 3 ∷ 3 ∷ 2 ∷ 2 ∷ 2 ∷ 1 ∷ 4 ∷ 7 ∷ 4 ∷ 3 ∷ [])
     × (reportText (3 ∷ 0 ∷ onwards)
     ≡ text "13 1 fill 1\n15 1 sent 0\n19 2 take 1\n21 2 got 0\n25 2 fill 23\n27 2 sent 0\n32 0 take 23\n"
     ++ (text "puts 3 gets 3 fills 2 takes 2 sent 2 got 1 idle 4\n" ++ text "moving\n"))
@@ -58,9 +59,9 @@ counts-told = (refl, refl, refl, refl)
 abbrev differ : List (List ℕ) → ℕ → ℕ → Bool
 differ rows j k = not (all (λ row. eqb (getD row j 0) (getD row k 0)) rows)
 
--- and so have any two of the first eight places
+-- and so have any two of the ten places
 abbrev apart : List (List ℕ) → Bool
-apart rows = every 8 (λ j. every 8 (λ k. eqb j k || differ rows j k))
+apart rows = every 10 (λ j. every 10 (λ k. eqb j k || differ rows j k))
 
 pub no-two-alike :
     apart

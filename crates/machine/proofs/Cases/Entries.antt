@@ -22,6 +22,7 @@ use Rattle.machine.proofs.Laws.Refusals.{fresh-whole}
 use Rattle.machine.proofs.Image.Fresh.{fresh-written, fresh-size, fresh-state, fresh-accepted}
 use Rattle.machine.proofs.Soundness.Kept.{image-over}
 use Rattle.machine.proofs.Idle.{idle-keeps}
+use Rattle.machine.proofs.LinkTraffic.{idle-none}
 use Rattle.machine.proofs.Steps.{step-answers, step-leaves}
 use Rattle.machine.proofs.Tapes.{length-tape}
 use Rattle.machine.proofs.Balance.Start.{each-fresh}
@@ -53,10 +54,10 @@ ledger = replicate 49 255
 unfoldable pub mayFill : List ℕ
 mayFill = (2 ∷ replicate 15 0) ++ (replicate 8 0 ++ (3 ∷ 1 ∷ 0 ∷ 0 ∷ bytes 4 7))
 
--- the whole list from the fresh ring: counts, ledger and stopped, and what ringrun prints
+-- the whole list from the fresh ring: counts and traffic, ledger and stopped, and what ringrun prints
 abbrev pub Entry1 : Type 0
 Entry1 =
-    (runAnswer ring (tapeOf (firstTen ++ lastTen)) ledger ≡ done (1 ∷ 1 ∷ 1 ∷ 1 ∷ 1 ∷ 1 ∷ 0 ∷ 4 ∷ []))
+    (runAnswer ring (tapeOf (firstTen ++ lastTen)) ledger ≡ done (1 ∷ 1 ∷ 1 ∷ 1 ∷ 1 ∷ 1 ∷ 0 ∷ 4 ∷ 2 ∷ 2 ∷ []))
     × (runLedger ring (tapeOf (firstTen ++ lastTen)) ledger
     ≡ (7 ∷ 0 ∷ 0 ∷ 0 ∷ 1 ∷ 2 ∷ 0 ∷ 0 ∷ 7 ∷ 0 ∷ 0 ∷ 0 ∷ [])
     ++ ((14 ∷ 0 ∷ 0 ∷ 0 ∷ 1 ∷ 4 ∷ 0 ∷ 0 ∷ 0 ∷ 0 ∷ 0 ∷ 0 ∷ [])
@@ -85,7 +86,7 @@ entry-2 = refl
 abbrev pub Entry3 : Type 0
 Entry3 =
     (stoppedAnswer (runImage ring (tapeOf firstTen) ledger) ≡ done (1 ∷ []))
-    × (runAnswer ring (tapeOf firstTen) ledger ≡ done (1 ∷ 0 ∷ 1 ∷ 0 ∷ 0 ∷ 0 ∷ 0 ∷ 1 ∷ []))
+    × (runAnswer ring (tapeOf firstTen) ledger ≡ done (1 ∷ 0 ∷ 1 ∷ 0 ∷ 0 ∷ 0 ∷ 0 ∷ 1 ∷ 1 ∷ 1 ∷ []))
     × (reportText (2 ∷ 0 ∷ tapeOf firstTen)
     ≡ text "7 1 fill 7\n" ++ (text "puts 1 gets 0 fills 1 takes 0 sent 0 got 0 idle 0\n" ++ text "stopped\n"))
 
@@ -98,7 +99,7 @@ abbrev pub Entry4 : Type 0
 Entry4 =
     (n home process : ℕ) → least ≤ n → n ≤ most → home < n → process < n
     → (buffer : List ℕ) → imageLength n ≤ length buffer
-    → (stepAnswer (freshImage n home buffer) (event process 7 0) ≡ done (0 ∷ 0 ∷ []))
+    → (stepAnswer (freshImage n home buffer) (event process 7 0) ≡ done (0 ∷ 0 ∷ 0 ∷ 0 ∷ []))
     × (stepImage (freshImage n home buffer) (event process 7 0) ≡ freshImage n home buffer)
 
 -- nobody has news there, so that put finds nothing to do
@@ -116,7 +117,8 @@ entry-4 n home process two few below on-ring buffer room =
     let nothing : outcome st v ≡ Idle =
     each-fresh (λ p. react 7 0 freshEnvelope p .outcome ≡ Idle) refl refl n home process in
     let stays : apply st v ≡ st = idle-keeps st v (ap isIdle nothing) in (
-      step-answers image fine process 7 on-image (lit< tt) ∙ rw (state, nothing),
+      step-answers image fine process 7 on-image (lit< tt)
+          ∙ rw (state, nothing, idle-none st v (ap isIdle nothing)),
       step-leaves image fine process 7 on-image (lit< tt)
           ∙ rw (state, stays, written) (image-over buffer st st refl),
     )
@@ -124,7 +126,7 @@ entry-4 n home process two few below on-ring buffer room =
 -- a second 1.0 after the first is idle, and the note (bytes 28 to 31) is still 7
 abbrev pub Entry5 : Type 0
 Entry5 =
-    (stepAnswer (stepImage ring (event 1 0 7)) (event 1 0 9) ≡ done (0 ∷ 0 ∷ []))
+    (stepAnswer (stepImage ring (event 1 0 7)) (event 1 0 9) ≡ done (0 ∷ 0 ∷ 0 ∷ 0 ∷ []))
     × (drop 28 (stepImage (stepImage ring (event 1 0 7)) (event 1 0 9)) ≡ 7 ∷ 0 ∷ 0 ∷ 0 ∷ [])
 
 pub entry-5 : Entry5
@@ -175,7 +177,7 @@ entry-8 = (
 -- room for just one record, and a byte too little for it
 abbrev pub Entry9 : Type 0
 Entry9 =
-    (runAnswer mayFill (tapeOf (event 1 2 0)) (replicate 12 0) ≡ done (0 ∷ 0 ∷ 1 ∷ 0 ∷ 0 ∷ 0 ∷ 0 ∷ 1 ∷ []))
+    (runAnswer mayFill (tapeOf (event 1 2 0)) (replicate 12 0) ≡ done (0 ∷ 0 ∷ 1 ∷ 0 ∷ 0 ∷ 0 ∷ 0 ∷ 1 ∷ 0 ∷ 0 ∷ []))
     × (runLedger mayFill (tapeOf (event 1 2 0)) (replicate 12 0) ≡ 0 ∷ 0 ∷ 0 ∷ 0 ∷ 1 ∷ 2 ∷ 0 ∷ 0 ∷ 7 ∷ 0 ∷ 0 ∷ 0 ∷ [])
     × (runAnswer mayFill (tapeOf (event 1 2 0)) (replicate 11 0) ≡ refused 10 0)
 

@@ -1,5 +1,5 @@
--- Each sentence of "The eight events", shown on a small image: the event, its outcome and the whole image after it; and
--- whether the ring is stopped.
+-- Each sentence of "The eight events", shown on a small image: the event, its outcome, its traffic and the whole image
+-- after it; and whether the ring is stopped.
 -- Records are written as in document 01: stage, flags (1 have, 2 arriving, 4 news), requests (1, 2 asked by the right;
 -- 4, 8 asked itself; 16, 32 marked; 64, 128 on the link, for full and for empty), note.
 use Prim.Native.Nat.{ℕ}
@@ -13,7 +13,7 @@ use Rattle.machine.proofs.Cases.Case.{Case, case, met, done, event, ima
 
 -- ---- how a case is written
 
--- an event on an image, its outcome and the image after it
+-- an event on an image, its outcome with its traffic, and the image after it
 pub record Move : Type 0 where
   pub before : List ℕ
   pub event : List ℕ
@@ -27,24 +27,34 @@ moves (m ∷ ms) =
     ∷ case (done (stepImage (m .before) (m .event))) (done (m .after))
     ∷ moves ms
 
--- the six outcomes by their numbers
+-- the six outcomes by their numbers; a put that ends lets the envelope leave, the others here have no traffic
 abbrev idle : List ℕ
-idle = 0 ∷ 0 ∷ []
+idle = 0 ∷ 0 ∷ 0 ∷ 0 ∷ []
 
 abbrev moved : List ℕ
-moved = 1 ∷ 0 ∷ []
+moved = 1 ∷ 0 ∷ 0 ∷ 0 ∷ []
 
 abbrev fill : ℕ → List ℕ
-fill m = 2 ∷ m ∷ []
+fill m = 2 ∷ m ∷ 0 ∷ 0 ∷ []
 
 abbrev take : ℕ → List ℕ
-take m = 3 ∷ m ∷ []
+take m = 3 ∷ m ∷ 0 ∷ 0 ∷ []
 
 abbrev sent : List ℕ
-sent = 4 ∷ 0 ∷ []
+sent = 4 ∷ 0 ∷ 0 ∷ 1 ∷ []
 
 abbrev got : List ℕ
-got = 5 ∷ 0 ∷ []
+got = 5 ∷ 0 ∷ 0 ∷ 0 ∷ []
+
+-- moved, with so many requests; and moved and got, where the envelope leaves
+abbrev asks : ℕ → List ℕ
+asks k = 1 ∷ 0 ∷ k ∷ 0 ∷ []
+
+abbrev away : List ℕ
+away = 1 ∷ 0 ∷ 0 ∷ 1 ∷ []
+
+abbrev gotAway : List ℕ
+gotAway = 5 ∷ 0 ∷ 0 ∷ 1 ∷ []
 
 -- code c at process 0 of an image gives an outcome and an image
 abbrev on : List ℕ → ℕ → List ℕ → List ℕ → Move
@@ -141,16 +151,16 @@ calm =
     ∷ []
 
 -- pass requests: ask for what the right has asked, and only once; a like request on the left's link absorbs it, and
--- asked itself is set all the same
+-- asked itself is set and the request counted all the same
 abbrev passing : List Move
 passing =
     puts (hollow (record8 0 4 0 0) holder) moved (hollow nobody holder)
-    ∷ puts (hollow (record8 0 4 1 0) holder) moved (hollow (record8 0 0 5 0) (record8 0 1 64 0))
-    ∷ puts (hollow (record8 1 4 2 7) holder) moved (hollow (record8 1 0 10 7) (record8 0 1 128 0))
-    ∷ puts (hollow (record8 6 4 3 0) holder) moved (hollow (record8 6 0 15 0) (record8 0 1 192 0))
+    ∷ puts (hollow (record8 0 4 1 0) holder) (asks 1) (hollow (record8 0 0 5 0) (record8 0 1 64 0))
+    ∷ puts (hollow (record8 1 4 2 7) holder) (asks 1) (hollow (record8 1 0 10 7) (record8 0 1 128 0))
+    ∷ puts (hollow (record8 6 4 3 0) holder) (asks 2) (hollow (record8 6 0 15 0) (record8 0 1 192 0))
     ∷ puts (hollow (record8 0 4 5 0) holder) moved (hollow (record8 0 0 5 0) holder)
-    ∷ puts (hollow (record8 0 4 1 0) (record8 0 1 64 0)) moved (hollow (record8 0 0 5 0) (record8 0 1 64 0))
-    ∷ puts (hollow (record8 0 4 2 0) (record8 0 1 192 0)) moved (hollow (record8 0 0 10 0) (record8 0 1 192 0))
+    ∷ puts (hollow (record8 0 4 1 0) (record8 0 1 64 0)) (asks 1) (hollow (record8 0 0 5 0) (record8 0 1 64 0))
+    ∷ puts (hollow (record8 0 4 2 0) (record8 0 1 192 0)) (asks 1) (hollow (record8 0 0 10 0) (record8 0 1 192 0))
     ∷ []
 
 -- forward: what the right has asked sets its marker, where the envelope stays too; it leaves for a marker or a count of
@@ -159,33 +169,33 @@ abbrev forwards : List Move
 forwards =
     puts (hollow (record8 0 5 0 0) nobody) moved (hollow holder nobody)
     ∷ puts (hollow (record8 0 5 1 0) nobody) moved (image 0 1 0 0 0 (record8 0 1 1 0) nobody)
-    ∷ puts (hollow (record8 0 5 2 0) nobody) moved (image 0 2 0 0 0 nobody (record8 0 2 0 0))
-    ∷ puts (laden (record8 6 5 1 0) nobody) moved (image 1 1 0 0 9 (record8 6 0 0 0) (record8 0 2 0 0))
+    ∷ puts (hollow (record8 0 5 2 0) nobody) away (image 0 2 0 0 0 nobody (record8 0 2 0 0))
+    ∷ puts (laden (record8 6 5 1 0) nobody) away (image 1 1 0 0 9 (record8 6 0 0 0) (record8 0 2 0 0))
     ∷ puts (laden (record8 1 5 2 7) nobody) moved (image 1 2 0 0 9 (record8 1 1 2 7) nobody)
-    ∷ puts (image 0 2 0 0 0 (record8 0 5 0 0) nobody) moved (image 0 2 0 0 0 nobody (record8 0 2 0 0))
+    ∷ puts (image 0 2 0 0 0 (record8 0 5 0 0) nobody) away (image 0 2 0 0 0 nobody (record8 0 2 0 0))
     ∷ puts (image 0 1 0 0 0 (record8 0 5 0 0) nobody) moved (image 0 1 0 0 0 holder nobody)
-    ∷ puts (image 0 0 0 1 0 (record8 0 5 0 0) (record8 2 0 32 7)) moved (image 0 0 0 1 0 nobody (record8 2 2 32 7))
+    ∷ puts (image 0 0 0 1 0 (record8 0 5 0 0) (record8 2 0 32 7)) away (image 0 0 0 1 0 nobody (record8 2 2 32 7))
     ∷ puts (image 0 0 1 0 0 (record8 0 5 0 0) (record8 7 0 16 0)) moved (image 0 0 1 0 0 holder (record8 7 0 16 0))
-    ∷ puts (image 1 0 1 0 9 (record8 0 5 0 0) (record8 7 0 16 0)) moved (image 1 0 1 0 9 nobody (record8 7 2 16 0))
-    ∷ puts (hollow (record8 0 5 207 0) nobody) moved (image 0 3 0 0 0 (record8 0 0 192 0) (record8 0 2 0 0))
+    ∷ puts (image 1 0 1 0 9 (record8 0 5 0 0) (record8 7 0 16 0)) away (image 1 0 1 0 9 nobody (record8 7 2 16 0))
+    ∷ puts (hollow (record8 0 5 207 0) nobody) away (image 0 3 0 0 0 (record8 0 0 192 0) (record8 0 2 0 0))
     ∷ []
 
 -- stage 2 waits for empty, stage 7 for full: without the envelope ask and pass; with the one waited for go on; with the
 -- other mark, once, and forward
 abbrev waiting : List Move
 waiting =
-    puts (hollow (record8 2 4 0 7) holder) moved (hollow (record8 2 0 8 7) (record8 0 1 128 0))
-    ∷ puts (hollow (record8 2 4 1 7) holder) moved (hollow (record8 2 0 13 7) (record8 0 1 192 0))
+    puts (hollow (record8 2 4 0 7) holder) (asks 1) (hollow (record8 2 0 8 7) (record8 0 1 128 0))
+    ∷ puts (hollow (record8 2 4 1 7) holder) (asks 2) (hollow (record8 2 0 13 7) (record8 0 1 192 0))
     ∷ puts (hollow (record8 2 5 3 7) nobody) moved (hollow (record8 3 1 3 7) nobody)
     ∷ puts (laden (record8 2 5 0 7) nobody) moved (image 1 0 0 1 9 (record8 2 1 32 7) nobody)
     ∷ puts (image 1 0 0 1 9 (record8 2 5 32 7) nobody) moved (image 1 0 0 1 9 (record8 2 1 32 7) nobody)
-    ∷ puts (laden (record8 2 5 13 7) nobody) moved (image 1 1 0 1 9 (record8 2 0 32 7) (record8 0 2 0 0))
-    ∷ puts (laden (record8 7 4 0 0) holder) moved (laden (record8 7 0 4 0) (record8 0 1 64 0))
-    ∷ puts (laden (record8 7 4 2 0) holder) moved (laden (record8 7 0 14 0) (record8 0 1 192 0))
+    ∷ puts (laden (record8 2 5 13 7) nobody) away (image 1 1 0 1 9 (record8 2 0 32 7) (record8 0 2 0 0))
+    ∷ puts (laden (record8 7 4 0 0) holder) (asks 1) (laden (record8 7 0 4 0) (record8 0 1 64 0))
+    ∷ puts (laden (record8 7 4 2 0) holder) (asks 2) (laden (record8 7 0 14 0) (record8 0 1 192 0))
     ∷ puts (laden (record8 7 5 3 0) nobody) moved (laden (record8 8 1 3 0) nobody)
     ∷ puts (hollow (record8 7 5 0 0) nobody) moved (image 0 0 1 0 0 (record8 7 1 16 0) nobody)
     ∷ puts (image 0 0 1 0 0 (record8 7 5 16 0) nobody) moved (image 0 0 1 0 0 (record8 7 1 16 0) nobody)
-    ∷ puts (hollow (record8 7 5 14 0) nobody) moved (image 0 2 1 0 0 (record8 7 0 16 0) (record8 0 2 0 0))
+    ∷ puts (hollow (record8 7 5 14 0) nobody) away (image 0 2 1 0 0 (record8 7 0 16 0) (record8 0 2 0 0))
     ∷ []
 
 -- stage 5 clears for empty, marker and mark, then forwards: what the right has asked is heeded after the clear; it is
@@ -201,8 +211,8 @@ endings =
     ∷ puts (hollow (record8 10 5 0 0) nobody) got (hollow holder nobody)
     ∷ puts (image 0 1 1 0 0 (record8 10 5 16 0) nobody) got (hollow holder nobody)
     ∷ puts (image 0 1 0 0 0 (record8 10 5 1 0) nobody) got (image 0 1 0 0 0 (record8 0 1 1 0) nobody)
-    ∷ puts (image 0 3 1 0 0 (record8 10 5 28 0) nobody) got (image 0 2 0 0 0 nobody (record8 0 2 0 0))
-    ∷ puts (image 0 0 1 1 0 (record8 10 5 16 0) (record8 2 0 32 7)) got (image 0 0 0 1 0 nobody (record8 2 2 32 7))
+    ∷ puts (image 0 3 1 0 0 (record8 10 5 28 0) nobody) gotAway (image 0 2 0 0 0 nobody (record8 0 2 0 0))
+    ∷ puts (image 0 0 1 1 0 (record8 10 5 16 0) (record8 2 0 32 7)) gotAway (image 0 0 0 1 0 nobody (record8 2 2 32 7))
     ∷ []
 
 -- ---- the neighbours
@@ -210,8 +220,8 @@ endings =
 -- requests go left and the envelope right
 abbrev sides : List Move
 sides =
-    puts (three 0 (record8 0 4 3 0) nobody holder) moved (three 0 (record8 0 0 15 0) nobody (record8 0 1 192 0))
-    ∷ puts (three 2 (record8 0 5 0 0) nobody nobody) moved (three 2 nobody (record8 0 2 0 0) nobody)
+    puts (three 0 (record8 0 4 3 0) nobody holder) (asks 2) (three 0 (record8 0 0 15 0) nobody (record8 0 1 192 0))
+    ∷ puts (three 2 (record8 0 5 0 0) nobody nobody) away (three 2 nobody (record8 0 2 0 0) nobody)
     ∷ []
 
 -- ---- stopped

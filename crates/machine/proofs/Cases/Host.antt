@@ -31,7 +31,8 @@ word n = bytes 8 n
 
 -- ---- with room
 
--- a step tells outcome and message, a run its eight counts, stopped 1 or 0; zeros follow up to byte 80, and no further
+-- a step tells outcome, message and traffic, a run its eight counts and traffic, stopped 1 or 0; zeros follow up to
+-- byte 80, and no further
 abbrev doneCases : List Case
 doneCases =
     case (told (stepAnswer mayFill (event 1 2 0)) 81) (reads 0 (word 2 ++ (word 7 ++ (replicate 64 0 ++ (255 ∷ [])))))

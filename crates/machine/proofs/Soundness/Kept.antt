@@ -24,7 +24,8 @@ use Rattle.machine.specs.Ring.{imageLength}
 use Rattle.machine.specs.Fields.{Status, full, empty, blank}
 use Rattle.machine.specs.Image.{State, sizeIn, stateIn, imageWith, headerBytes, recordBytes}
 use Rattle.machine.specs.Sound.{stagesFit, countFits, sound}
-use Rattle.machine.specs.Events.{Event, processAt, place, react, reaction, apply}
+use Rattle.machine.specs.Events.{Event, processAt, place, react, reaction, outcome, apply}
+use Rattle.machine.specs.Run.{outcomeMessage}
 use Rattle.machine.specs.Refusals.{unless, imageVerdict}
 use Rattle.machine.proofs.Laws.Lists.{all-at, all-each}
 use Rattle.machine.specs.Bytes.{Bytes}
@@ -111,6 +112,14 @@ fits-kept st v size below fits =
 -- a note is in range, as a test
 abbrev noteSmall : Process → Bool
 noteSmall p = ltb (p .note) (2 ^ 32)
+
+-- the message that an event fills or takes is in range
+pub outcome-small : (st : State) (v : Event) → v .process < length (st .processes) → v .message < 2 ^ 32 → InRange st
+    → outcomeMessage (outcome st v) < 2 ^ 32
+unfolding outcome reaction
+outcome-small st v below message range =
+    react-small (v .code) (v .message) (st .envelope) (processAt (st .processes) (v .process)) message
+    (range .message) (range .notes (v .process) below) .2
 
 -- messages and notes stay in range
 pub range-kept : (st : State) (v : Event) → v .process < length (st .processes) → v .message < 2 ^ 32 → InRange st

@@ -48,7 +48,7 @@ returns c =
     let start = read .before .before .before .before in
     let s = start .args .image .now in
     let image = image-fine s (start .pre .image-fine) in
-    ap (λ (counts : Counts). counts .records) (played .replay .ensures .0)
+    ap (λ (counts : Counts). counts .records) (played .replay .ensures .0 .counts)
     ∙ ap (λ (st : State). recordsFrom st (firstEvents (start .args .tape .now) (start .args .events)))
     (spare-state s (start .pre .image-fine)
     (λ k. omega (arith, read .before .before .before .shared-slice-known .given k))

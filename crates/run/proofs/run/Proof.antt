@@ -54,7 +54,7 @@ replay-requires c κs =
 
 returns-3 : tie.Need-returns-3
 returns-3 c =
-    let p = c .before .before .before .before in
+    let p = c .before .before .before .before .before .before in
     let room = p .before .before .before in
     let f = room .before .before .before .before in
     let a = f .before .before .before .before .before .before .before .args in

@@ -1,30 +1,22 @@
 //! The known lists at whose end a request crosses the envelope on a link, from every home, and what follows them.
 
-use crate::case::Case;
 use crate::image::fresh;
-use crate::runs::records;
 use crate::steps::{likely, steps};
 use crate::tally::CROSSING_LIST;
+use crate::traffic::summed;
 use crate::{Watch, Work};
-use compare::tape::{event, Event, Tape};
+use compare::tape::{event, Event};
 use guide::{read_list, Random};
 use samples::crossing_lists::CROSSINGS;
 
-/// Every list for N = 2 or 3: by steps of which none is idle, as one run, and then further steps.
+/// Every list for N = 2 or 3: as one run, by steps of which none is idle, and then further steps.
 pub fn lists(watch: &mut Watch, n: usize, random: &mut Random) -> Work<()> {
     watch.tally.reached = true;
     for crossing in CROSSINGS.iter().filter(|crossing| crossing.n == n as u64) {
         for home in 0..n {
             let list = turned(crossing.list, home, n, random);
-            let mut image = fresh(n, home);
-            let tape = Tape::of(&list);
-            let room = 12 * records(&image, &tape);
-            watch.accepted(&Case::run(image.clone(), tape, room, 80))?;
-            for event in &list {
-                let answer = watch.accepted(&Case::step(image, event, 80))?;
-                assert_ne!(answer.word(0), Some(0), "no event of the list is idle: {}", crossing.list);
-                image = answer.image;
-            }
+            let (image, idle) = summed(watch, fresh(n, home), &list)?;
+            assert_eq!(idle, 0, "no event of the list is idle: {}", crossing.list);
             watch.tally.count_way(CROSSING_LIST);
             steps(watch, image, 60, likely, random)?;
         }

@@ -3,6 +3,7 @@
 use crate::refusals;
 use crate::surveys::{ANY_BYTES, BIT_TURNED, FOUND};
 use crate::tally::{Tally, CROSSINGS, CROSSING_LIST, NO_EVENTS, OUTCOMES, WAYS};
+use crate::traffic::{SHOWN, SUMMED};
 use crate::unsound::image_causes;
 use compare::counts::Missing;
 use compare::watch::key;
@@ -24,6 +25,10 @@ const OUTCOME: u64 = 2_000;
 const CROSSING: u64 = 1_000;
 /// The least lists of crossings that are replayed.
 const LISTS: u64 = 120;
+/// The least requests, and departures; times that each thing is shown of them; and runs held against their steps.
+const TRAFFIC: u64 = 1_000_000;
+const SHOWING: u64 = 440;
+const SUMS: u64 = 240;
 /// The least runs of no events.
 const RUNS_OF_NOTHING: u64 = 1_900;
 /// The least times that a step takes each way.
@@ -47,6 +52,10 @@ pub fn missing(tally: &Tally) -> Missing {
     for (ways, due) in [(&OUTCOMES[..], OUTCOME), (&CROSSINGS[..], CROSSING), (&WAYS[..], WAY)] {
         ways.iter().for_each(|way| missing.least(way, tally.ways.of(way), due));
     }
+    missing.least("requests", tally.traffic.requests, TRAFFIC);
+    missing.least("departures", tally.traffic.departures, TRAFFIC);
+    SHOWN.iter().for_each(|shown| missing.least(shown, tally.ways.of(shown), SHOWING));
+    missing.least(SUMMED, tally.ways.of(&SUMMED), SUMS);
     missing.least(CROSSING_LIST, tally.ways.of(&CROSSING_LIST), LISTS);
     missing.least(NO_EVENTS, tally.ways.of(&NO_EVENTS), RUNS_OF_NOTHING);
     missing.least("surveys", tally.surveys, SURVEYS);

@@ -5,8 +5,11 @@
 
 use crate::case::{Call, Case};
 use crate::pieces::work;
+use crate::traffic::sums;
+use crate::Watch;
 use compare::calls::{plain, PROVED};
 use compare::case::Case as _;
+use guide::Random;
 use plain::FAULTS;
 
 /// The events of a case, equal ones in a row taken for one.
@@ -40,6 +43,10 @@ fn every_planted_fault_is_found_and_shrunk() {
         plain::<21>(),
         plain::<22>(),
         plain::<23>(),
+        plain::<24>(),
+        plain::<25>(),
+        plain::<26>(),
+        plain::<27>(),
     ];
     let names: Vec<&str> = FAULTS.into_iter().filter(|name| !name.contains("load")).collect();
     assert_eq!(names.len(), faulty.len(), "every planted fault has its turn");
@@ -54,4 +61,12 @@ fn every_planted_fault_is_found_and_shrunk() {
         assert!(case.image.first().is_none_or(|n| *n <= most), "not shrunk to few processes: {name}\n{find}");
         assert!(distinct(case) <= 3, "not shrunk to few events: {name}\n{find}");
     }
+}
+
+/// Where both sides are wrong alike, a run's traffic is still held against its steps.
+#[test]
+fn traffic_that_is_no_sum_is_found_on_equal_sides() {
+    let mut watch = Watch::new([plain::<27>(), plain::<27>()]);
+    let found = sums(&mut watch, 3, &mut Random::new(1)).expect_err("fault 27 shows here");
+    assert!(found.to_string().contains("step by step"), "{found}");
 }

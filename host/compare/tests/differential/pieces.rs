@@ -8,7 +8,7 @@ use std::thread;
 
 use crate::case::Case;
 use crate::tally::Tally;
-use crate::{buffers, crossings, lists, refusals, runs, steps, surveys, Watch, Work};
+use crate::{buffers, crossings, lists, refusals, runs, steps, surveys, traffic, Watch, Work};
 use compare::calls::Calls;
 use compare::watch::Found;
 use guide::Random;
@@ -71,6 +71,8 @@ fn short_kinds() -> Vec<(&'static str, Kind)> {
         ("runs: every count", runs::every_count),
         ("runs: no events", runs::no_events),
         ("runs: halves of 0", runs::zero_halves),
+        ("traffic: requests", traffic::requests),
+        ("traffic: sums", traffic::sums),
     ]
 }
 

@@ -3,6 +3,7 @@
 use crate::case::{Call, Case};
 use crate::image::{at, size, HAVE, NEWS};
 use crate::surveys::found;
+use crate::traffic::{shown_by_run, shown_by_step, Traffic};
 use compare::case::Case as _;
 use compare::compare::Answer;
 use compare::counts::Counts;
@@ -23,11 +24,14 @@ pub struct Tally {
     pub events: u64,
     /// Those of them that were idle.
     pub idle: u64,
+    /// What they sent.
+    pub traffic: Traffic,
     /// Fills, by N.
     pub fills: Counts<usize>,
     /// Takes, by N.
     pub takes: Counts<usize>,
-    /// Ways that steps and stopped calls took, and what surveys found, by name.
+    /// Ways that steps and stopped calls took, what steps and runs showed of their traffic, and what surveys found, by
+    /// name.
     pub ways: Counts<&'static str>,
     /// Surveys of images that aren't sound, by cause.
     pub unsound: Counts<String>,
@@ -105,6 +109,7 @@ impl watch::Tally for Tally {
         self.calls += 1;
         self.surveys += u64::from(case.call == Call::Survey);
         let (0, Some(first)) = (answer.number, answer.word(0)) else { return };
+        self.traffic += Traffic::told(case, answer);
         match &case.call {
             Call::Step { event } => self.count_step(case, event, first, answer),
             Call::Run { .. } => self.count_run(case, answer),
@@ -127,6 +132,7 @@ impl Tally {
         self.takes.add(n, u64::from(outcome == 3));
         self.count_way(OUTCOMES[outcome as usize]);
         self.count_way(way(&case.image, event, outcome, &answer.image));
+        shown_by_step(case, event, answer).into_iter().for_each(|shown| self.count_way(shown));
         if self.reached {
             crossings(&case.image).into_iter().for_each(|crossing| self.count_way(crossing));
         }
@@ -139,6 +145,7 @@ impl Tally {
         self.idle += word(6);
         self.fills.add(n, word(2));
         self.takes.add(n, word(3));
+        shown_by_run(case, answer).into_iter().for_each(|shown| self.count_way(shown));
     }
 
     /// Counts a way.
@@ -152,6 +159,7 @@ impl Tally {
         self.surveys += other.surveys;
         self.events += other.events;
         self.idle += other.idle;
+        self.traffic += other.traffic;
         self.fills.join(other.fills);
         self.takes.join(other.takes);
         self.ways.join(other.ways);

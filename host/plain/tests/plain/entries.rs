@@ -82,7 +82,7 @@ fn entry_9_needs_12_bytes_for_one_record() {
     assert_eq!(answer, refused(10, 0));
     assert_eq!((image.clone(), ledger), (guide::fresh(2, 0), vec![0xA5; 11]));
     let (answer, ledger) = run(&mut image, &tape, 12);
-    assert_eq!(answer, done(&[1, 0, 1, 0, 0, 0, 0, 1]));
+    assert_eq!(answer, done(&[1, 0, 1, 0, 0, 0, 0, 1, 1, 1]));
     assert_eq!(ledger, [7, 0, 0, 0, 1, 2, 0, 0, 7, 0, 0, 0]);
 }
 

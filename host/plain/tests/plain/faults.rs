@@ -23,9 +23,11 @@ fn a_run_is_its_steps() {
         let (ran, ledger) = run(&mut whole, &guide::tape(n, &list), 12 * 5_000);
         let mut image = guide::fresh(n, 1);
         let mut records = Vec::new();
-        let mut counts = [0; 8];
+        let mut counts = [0; 10];
         for (number, event) in list.chunks_exact(8).enumerate() {
-            let [kind, message, ..] = step(&mut image, event).words;
+            let [kind, message, requests, departures, ..] = step(&mut image, event).words;
+            counts[8] += requests;
+            counts[9] += departures;
             if event[1] < 2 && kind != 0 {
                 counts[usize::from(event[1])] += 1;
             }
@@ -93,14 +95,18 @@ fn faults_of_events_are_seen() {
     assert!(differs_in_steps::<4>());
     assert!(differs_in_steps::<5>());
     assert!(differs_in_steps::<10>());
+    assert!(differs_in_steps::<24>());
+    assert!(differs_in_steps::<25>());
+    assert!(differs_in_steps::<26>());
 }
 
 #[test]
 fn faults_of_runs_are_seen() {
     assert!(!differs_in_runs::<0>());
     assert!(differs_in_runs::<8>());
-    assert!(differs_in_runs::<10>());
+    assert!(!differs_in_runs::<10>(), "a run tells all its words");
     assert!(differs_in_runs::<11>());
+    assert!(differs_in_runs::<27>());
 }
 
 #[test]

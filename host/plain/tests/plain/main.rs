@@ -1,5 +1,5 @@
 //! The plain implementation against documents 01 and 02: the ten entries, the refusals' order, ringrun's
-//! text, loads, tapes of no events, and surveys.
+//! text, loads, tapes of no events, surveys, and traffic.
 
 mod entries;
 mod faults;
@@ -9,3 +9,4 @@ mod refusals;
 mod reports;
 mod support;
 mod surveys;
+mod traffic;

@@ -23,7 +23,7 @@ fn a_run_of_nothing_counts_nothing_and_leaves_image_and_ledger() {
         run(&mut image, &guide::tape(n, &list), 12 * 300);
         for room in [0, 1, 11, 12, 13] {
             let before = image.clone();
-            assert_eq!(run(&mut image, &[], room), (done(&[0; 8]), vec![0xA5; room]));
+            assert_eq!(run(&mut image, &[], room), (done(&[0; 10]), vec![0xA5; room]));
             assert_eq!(image, before);
         }
     }

@@ -13,8 +13,8 @@ fn shown<const FAULT: u8>() -> Vec<String> {
 /// Left out are those that no ringrun can show: without 4's marker the next forward, which still has
 /// the asked bit, sets it all the same; the tapes are too short for 8; from a fresh ring no image is
 /// unsound as in 9; no result slice is printed (10); the ledger has room for all (11); a ringrun
-/// makes no loads (15 to 17); of a ledger without records no byte is printed (20); and a ringrun
-/// makes no survey (21 to 23): of its walks it has the verdicts alone.
+/// makes no loads (15 to 17); of a ledger without records no byte is printed (20); a ringrun makes no
+/// survey (21 to 23): of its walks it has the verdicts alone; and it prints no traffic (24 to 27).
 #[test]
 fn every_planted_fault_shows() {
     let found = [

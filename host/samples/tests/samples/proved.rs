@@ -19,7 +19,7 @@ fn proved(sample: &Sample) -> Option<String> {
 fn ran(n: u64, home: u64, tape: &[u8]) -> Result<String, Refusal> {
     let mut image = fresh(n, home)?;
     let mut ledger = vec![0; 12 * 63 * 64];
-    let counts = run(&mut image, tape, &mut ledger)?;
+    let counts = run(&mut image, tape, &mut ledger)?.counts;
     let lines: String = records(&ledger[..counts.ledger_bytes()]).map(|record| format!("{record}\n")).collect();
     let end = if stopped(&image)? { "stopped" } else { "moving" };
     Ok(format!("{lines}{counts}\n{end}\n"))

@@ -2,7 +2,8 @@
 
 use crate::support::{events, ring, tape, ENTRY};
 use vengloaz::{
-    fresh, load, read, records, run, step, stopped, survey, write, Counts, Event, Findings, Outcome, Record, Refusal,
+    fresh, load, read, records, run, step, stopped, survey, write, Counts, Event, Findings, Outcome, Ran, Record,
+    Refusal, Stepped, Traffic,
 };
 
 /// The last image of entry 1, which entry 2 gives.
@@ -20,7 +21,12 @@ fn entry_1_by_steps() {
             19 => Outcome::Got,
             _ => Outcome::Moved,
         };
-        assert_eq!(step(&mut image, event), Ok(due), "event {number}");
+        let traffic = match number {
+            2 | 12 => Traffic { requests: 1, departures: 0 },
+            4 | 14 => Traffic { requests: 0, departures: 1 },
+            _ => Traffic::default(),
+        };
+        assert_eq!(step(&mut image, event), Ok(Stepped { outcome: due, traffic }), "event {number}");
     }
     assert_eq!(image, LAST_IMAGE);
     assert_eq!(stopped(&image), Ok(true));
@@ -30,7 +36,8 @@ fn entry_1_by_steps() {
 fn entry_1_by_a_run() {
     let mut image = ring();
     let mut ledger = [0xEE; 50];
-    let counts = run(&mut image, &tape(&events(ENTRY)), &mut ledger).expect("entry 1 isn't refused");
+    let Ran { counts, traffic } = run(&mut image, &tape(&events(ENTRY)), &mut ledger).expect("entry 1 isn't refused");
+    assert_eq!(traffic, Traffic { requests: 2, departures: 2 });
     assert_eq!(counts, Counts { puts: 1, gets: 1, fills: 1, takes: 1, sent: 1, got: 1, idle: 0, records: 4 });
     assert_eq!(counts.ledger_bytes(), 48);
     assert_eq!(image, LAST_IMAGE);
@@ -47,7 +54,8 @@ fn entry_1_by_a_run() {
 
 #[test]
 fn each_count_has_its_own_field() {
-    let counts = |events: &[Event]| run(&mut ring(), &tape(events), &mut [0; 60]).expect("these events are right");
+    let counts =
+        |events: &[Event]| run(&mut ring(), &tape(events), &mut [0; 60]).expect("these events are right").counts;
     let mut list = events(ENTRY);
     let some = Counts { puts: 1, gets: 1, fills: 1, records: 1, ..Counts::default() };
     assert_eq!(counts(&list[..11]), some);
@@ -65,7 +73,7 @@ fn each_count_has_its_own_field() {
 #[test]
 fn the_first_ten_events_stop_with_nothing_sent() {
     let mut image = ring();
-    let counts = run(&mut image, &tape(&events(ENTRY)[..10]), &mut [0; 12]).expect("entry 3 isn't refused");
+    let counts = run(&mut image, &tape(&events(ENTRY)[..10]), &mut [0; 12]).expect("entry 3 isn't refused").counts;
     assert_eq!((counts.puts, counts.fills, counts.sent, counts.records), (1, 1, 0, 1));
     assert_eq!(stopped(&image), Ok(true));
 }
@@ -73,10 +81,11 @@ fn the_first_ten_events_stop_with_nothing_sent() {
 #[test]
 fn idle_events() {
     let mut image = ring();
-    assert_eq!(step(&mut image, Event::new(1, 7)), Ok(Outcome::Idle));
+    let quiet = |outcome: Outcome| Ok(Stepped { outcome, traffic: Traffic::default() });
+    assert_eq!(step(&mut image, Event::new(1, 7)), quiet(Outcome::Idle));
     assert_eq!(image, ring());
-    assert_eq!(step(&mut image, Event::put(1, 7)), Ok(Outcome::Moved));
-    assert_eq!(step(&mut image, Event::put(1, 8)), Ok(Outcome::Idle));
+    assert_eq!(step(&mut image, Event::put(1, 7)), quiet(Outcome::Moved));
+    assert_eq!(step(&mut image, Event::put(1, 8)), quiet(Outcome::Idle));
     assert_eq!(image[28..], [7, 0, 0, 0]);
     assert_eq!(stopped(&image), Ok(false));
 }
@@ -88,12 +97,55 @@ fn a_message_keeps_all_its_bits() {
     assert_eq!(read(2, &tape(&list)), Ok(list.clone()));
     let mut image = ring();
     for (number, event) in list.into_iter().enumerate() {
-        let outcome = step(&mut image, event);
+        let outcome = step(&mut image, event).map(|stepped| stepped.outcome);
         match number {
             7 => assert_eq!(outcome, Ok(Outcome::Fill(0xFEDC_BA98))),
             17 => assert_eq!(outcome, Ok(Outcome::Take(0xFEDC_BA98))),
             _ => assert!(outcome.is_ok()),
         }
+    }
+}
+
+/// The events of a list on the fresh ring of N, home 0, that send something, with their requests and departures.
+fn sending(n: u64, list: &str) -> Vec<(usize, u64, u64)> {
+    let mut image = fresh(n, 0).expect("there is such a ring");
+    let traffic = events(list).into_iter().map(|event| step(&mut image, event).expect("it is an event").traffic);
+    let sending = traffic.enumerate().filter(|(_, traffic)| *traffic != Traffic::default());
+    sending.map(|(number, traffic)| (number, traffic.requests, traffic.departures)).collect()
+}
+
+/// Process 1 passes on the request of its right for full: at the same time it asks for empty itself, or, later, wants
+/// full too, for which it has asked.
+#[test]
+fn two_requests_of_one_event_and_none_where_it_has_asked() {
+    assert_eq!(sending(3, "2.1 2.3 2.7 1.0(7) 1.3 1.5 1.7"), [(2, 1, 0), (6, 2, 0)]);
+    assert_eq!(sending(3, "2.1 2.3 2.7 1.5 1.7 1.1 1.3 1.7"), [(2, 1, 0), (4, 1, 0)]);
+}
+
+/// The last request of process 1 finds the one that it passed on before, in event 9, still on the link to process 0.
+#[test]
+fn an_absorbed_request_counts() {
+    let list = "1.0(7) 1.3 1.7 0.6 0.7 2.1 2.3 2.7 1.5 1.7 1.4 1.7 1.2 1.3 1.7 1.1 1.3 1.7";
+    let due = [(2, 1, 0), (4, 0, 1), (7, 1, 0), (9, 1, 0), (14, 0, 1), (17, 1, 0)];
+    assert_eq!(sending(3, list), due);
+}
+
+/// A list as one run, and event by event: the run's traffic is that of its steps, added up.
+#[test]
+fn the_traffic_of_a_run_is_that_of_its_steps() {
+    for n in [2, 3, 8, 64] {
+        let mut image = fresh(n, 1).expect("there is such a ring");
+        let list = guide::guided(&image, 5_000, &mut guide::Random::new(n));
+        let ran = run(&mut image.clone(), &guide::tape(n, &list), &mut [0; 60_000]).expect("the list isn't refused");
+        let mut sum = Traffic::default();
+        for event in list.as_chunks().0 {
+            let event = Event::from_bytes(*event).expect("it is an event");
+            let Traffic { requests, departures } = step(&mut image, event).expect("the list isn't refused").traffic;
+            sum.requests += requests;
+            sum.departures += departures;
+        }
+        assert_eq!(ran.traffic, sum);
+        assert!(sum.requests > 100 && sum.departures > 100, "{sum:?}");
     }
 }
 
@@ -106,7 +158,7 @@ fn a_run_of_no_events() {
         step(&mut image, event).expect("entry 1 isn't refused");
         let (before, mut ledger) = (image.clone(), [0xEE; 12]);
         for length in [0, 1, 12] {
-            assert_eq!(run(&mut image, &[], &mut ledger[..length]), Ok(Counts::default()));
+            assert_eq!(run(&mut image, &[], &mut ledger[..length]), Ok(Ran::default()));
         }
         assert_eq!((&image, ledger), (&before, [0xEE; 12]));
     }

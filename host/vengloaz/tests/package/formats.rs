@@ -60,15 +60,16 @@ fn the_examples_in_bytes() {
     let story = tape(&events(ENTRY));
     let input = include_bytes!("../../../../samples/entry-01.in");
     assert_eq!(input[..], [&[2, 0], &story[..]].concat());
-    let (mut run, mut fill) = ([0xEE; 80], [0xEE; 80]);
+    let [mut run, mut ask, mut fill] = [[0xEE; 80]; 3];
     assert_eq!(raw::ring_run(&mut ring(), &story, &mut [0; 48], &mut run), 0);
+    assert_eq!(raw::ring_step(&mut after(2), &Event::new(1, 7).to_bytes(), &mut ask), 0);
     assert_eq!(raw::ring_step(&mut after(7), &Event::new(1, 2).to_bytes(), &mut fill), 0);
     let mut broken = after(13);
     (broken[17], broken[26]) = (0x01, 0x58);
     let mut survey = [0xEE; 80];
     assert_eq!(raw::ring_survey(&broken, &mut survey), 0);
     let load = load(4, 1, 8).expect("it is a load");
-    let due: [(&str, &[u8]); 11] = [
+    let due: [(&str, &[u8]); 12] = [
         ("Image", &ring()),
         ("Image", &after(13)),
         ("Event", &Event::put(1, 7).to_bytes()),
@@ -77,6 +78,7 @@ fn the_examples_in_bytes() {
         ("Load", &load),
         ("Ledger record", &ledger(ENTRY)),
         ("Result slice", &run),
+        ("Result slice", &ask),
         ("Result slice", &fill),
         ("Result slice", &survey),
         ("ringrun's input", &input[..18]),

@@ -3,7 +3,7 @@
 use crate::support::{events, ledger, ring, tape, ENTRY};
 use std::cell::RefCell;
 use std::collections::{BTreeMap, BTreeSet};
-use vengloaz::{fresh, load, raw, read, run, step, write, Event, Outcome, Refusal};
+use vengloaz::{fresh, load, raw, read, run, step, write, Event, Outcome, Ran, Refusal};
 
 const HEADER: &str = include_str!("../../../../include/vengloaz.h");
 
@@ -225,7 +225,7 @@ fn steps(numbers: &Numbers) {
         (0, "PUT_ACTS", "GOT"),
     ];
     let mut image = ring();
-    for (process, code, outcome) in list {
+    for (number, (process, code, outcome)) in list.into_iter().enumerate() {
         let mut event = vec![0; numbers.of("EVENT_SIZE")];
         event[numbers.of("EVENT_PROCESS")] = process;
         event[numbers.of("EVENT_CODE")] = numbers.of(code) as u8;
@@ -236,6 +236,13 @@ fn steps(numbers: &Numbers) {
         assert_eq!(word(&result, numbers.of("WORD_OUTCOME")), numbers.of(outcome) as u64, "{process} {code}");
         let due = if ["FILL", "TAKE"].contains(&outcome) { 305_419_896 } else { 0 };
         assert_eq!(word(&result, numbers.of("WORD_MESSAGE")), due, "{process} {code}");
+        let told = ["WORD_STEP_REQUESTS", "WORD_STEP_DEPARTURES"].map(|name| word(&result, numbers.of(name)));
+        let due = match number {
+            2 | 13 => [1, 0],
+            5 | 15 => [0, 1],
+            _ => [0, 0],
+        };
+        assert_eq!(told, due, "{process} {code}");
     }
     let named = [
         ("IDLE", Outcome::Idle),
@@ -288,19 +295,20 @@ fn loads(numbers: &Numbers) {
     }
 }
 
-/// The counts after each beginning of a list, in which each count goes its own way.
+/// The counts and the traffic after each beginning of a list, in which each goes its own way.
 fn words(numbers: &Numbers) {
     let list = events(&format!("{ENTRY} 1.0(8) 1.0(9) 0.2 0.4 1.3 1.7 0.6 0.7"));
     for count in 0..=list.len() {
         let tape = tape(&list[..count]);
         let mut result = [0xEE; 80];
         raw::ring_run(&mut ring(), &tape, &mut [0; 120], &mut result);
-        let counts = run(&mut ring(), &tape, &mut [0; 120]).expect("the list isn't refused");
+        let Ran { counts, traffic } = run(&mut ring(), &tape, &mut [0; 120]).expect("the list isn't refused");
         let told = |name: &'static str| word(&result, numbers.of(name));
         assert_eq!((told("WORD_PUTS"), told("WORD_GETS")), (counts.puts, counts.gets));
         assert_eq!((told("WORD_FILLS"), told("WORD_TAKES")), (counts.fills, counts.takes));
         assert_eq!((told("WORD_SENT"), told("WORD_GOT")), (counts.sent, counts.got));
         assert_eq!((told("WORD_IDLE"), told("WORD_RECORDS")), (counts.idle, counts.records));
+        assert_eq!((told("WORD_RUN_REQUESTS"), told("WORD_RUN_DEPARTURES")), (traffic.requests, traffic.departures));
     }
 
     let mut result = [0xEE; 80];

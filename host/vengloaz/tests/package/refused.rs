@@ -142,9 +142,9 @@ fn short_ledgers() {
         assert_refused(run(&mut image, &first_ten, &mut ledger[..length]), Refusal::OutputShort, 10, 0);
     }
     assert_eq!((&image, ledger), (&ring(), [0xEE; 12]));
-    assert_eq!(run(&mut image, &first_ten, &mut ledger).map(|counts| counts.records), Ok(1));
+    assert_eq!(run(&mut image, &first_ten, &mut ledger).map(|ran| ran.counts.records), Ok(1));
     let none = run(&mut ring(), &tape(&[Event::get(0)]), &mut []);
-    assert_eq!(none.map(|counts| counts.records), Ok(0));
+    assert_eq!(none.map(|ran| ran.counts.records), Ok(0));
 }
 
 #[test]

@@ -24,7 +24,7 @@ pub fn tape(events: &[Event]) -> Vec<u8> {
 pub fn ledger(list: &str) -> Vec<u8> {
     let events = events(list);
     let mut ledger = vec![0; 12 * events.len()];
-    let counts = run(&mut ring(), &tape(&events), &mut ledger).expect("the list isn't refused");
+    let counts = run(&mut ring(), &tape(&events), &mut ledger).expect("the list isn't refused").counts;
     ledger.truncate(counts.ledger_bytes());
     ledger
 }

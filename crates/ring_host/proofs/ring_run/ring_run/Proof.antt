@@ -27,7 +27,7 @@ returns-3 c =
     let s = is .before .before .before .before .before .before in
     let a = s .before .before .before .before .before .before .before .before .args in
     run-done (a .image .now) (a .tape .now) (a .ledger .now) (a .result .now) (omega arith) (s .run .ensures .1 .0)
-    (s .run .ensures .1 .1) (s .run .ensures .0) _ (is .answer .given .1) (c .before .before .tell .ensures)
+    (s .run .ensures .1 .1) (s .run .ensures .0) _ _ (is .answer .given .1) (c .before .before .tell .ensures)
 
 pub ring-run-spec : {M : Type 1} → statement M
 ring-run-spec =

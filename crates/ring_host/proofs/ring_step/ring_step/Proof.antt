@@ -29,7 +29,7 @@ returns-3 c =
     let s = is .before .before .before .before in
     let a = s .before .before .before .before .before .before .args in
     step-done (a .image .now) (a .event .now) (a .result .now) (omega arith) (s .step .ensures .1) (s .step .ensures .0)
-    _ (is .answer .given .1) (number .outcome-number .ensures) (message .outcome-message .ensures)
+    _ _ (is .answer .given .1) (number .outcome-number .ensures) (message .outcome-message .ensures)
     (c .before .before .tell .ensures)
 
 pub ring-step-spec : {M : Type 1} → statement M
