@@ -1,4 +1,6 @@
 // The check of a block: two sums over its words of 16 bits, in the field a Fletcher checksum. Document 01, "The tape".
+#![tactic(auto)]
+
 ghost use Rattle.std.specs.Prelude.{◌≡◌, ◌+◌, ◌*◌, ◌≤◌, length};
 ghost use Rattle.machine.specs.Tape.{check, covered};
 

@@ -1,6 +1,8 @@
 // An event as a struct by value: read from eight bytes and written, tested, and applied to the header and its process's
 // record. What it does comes back by value too, the only place where an event's effect is decided. Document 01, "The
 // eight events".
+#![tactic(auto)]
+
 ghost use Rattle.std.specs.Prelude.{◌≡◌, ◌+◌, ◌≤◌, ◌<◌, length};
 ghost use Rattle.machine.specs.Bytes.{splice};
 ghost use Rattle.machine.specs.Tape.{event_in, event_bytes};
@@ -20,7 +22,7 @@ use record::process;
 use record::process::Record;
 
 // At which process, its code, and the message of code 0.
-#[derive(Drop)]
+#[derive(Clone, Copy)]
 pub struct Event {
     pub process: usize,
     pub code: u8,
@@ -82,7 +84,7 @@ fn need_of(code: u8) -> u64
 
 // What a possible event does to its own record before anything else: bits off, and what is then added, which is the
 // stage's step and bits that are off; and what it counts as started.
-#[derive(Drop)]
+#[derive(Clone, Copy)]
 pub struct Row {
     pub off: u64,
     pub on: u64,

@@ -1,4 +1,6 @@
 // The ring type: its sizes, the neighbours of a process, and the fresh ring call.
+#![tactic(auto)]
+
 ghost use Rattle.std.specs.Prelude.{◌≡◌, ◌<◌};
 ghost use Rattle.machine.specs.Ring as rule;
 ghost use Rattle.machine.specs.Answers.{fresh_verdict, fresh_answer, fresh_image};
@@ -9,13 +11,13 @@ use numbers::refusal_of;
 use span::clear;
 
 // A ring of so many processes, numbered from 0.
-#[derive(Drop)]
+#[derive(Clone, Copy)]
 pub struct Ring {
     pub size: usize,
 }
 
 // What the fresh ring call answers.
-#[derive(Drop)]
+#[derive(Clone, Copy)]
 pub enum FreshAnswer {
     Done,
     Refused(Refusal),

@@ -1,4 +1,6 @@
 // A run's ledger, which is its trace. Document 01, "The run".
+#![tactic(auto)]
+
 ghost use Rattle.std.specs.Prelude.{◌≡◌, ◌+◌, ◌≤◌, ◌<◌, length};
 ghost use Rattle.machine.specs.Bytes.{splice};
 ghost use Rattle.machine.specs.Run.{outcome_number, ledger_entry};

@@ -1,5 +1,7 @@
 // The lines of ringrun's text, written into a page. Every function answers the place where the text goes on.
 // Document 01, "The tape", its last paragraph.
+#![tactic(auto)]
+
 ghost use Rattle.std.specs.Prelude.{[], ◌∷◌, ◌++◌, ◌+◌, ◌*◌, ◌≤◌, length};
 ghost use Rattle.machine.specs.Text.{decimal, space};
 ghost use Rattle.machine.specs.Report.{code_word, record_line, record_lines, counts_line, last_line, refusal_line};

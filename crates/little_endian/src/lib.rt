@@ -1,5 +1,7 @@
 // Numbers in bytes, lowest first: read and written, and a byte in a wider type. Document 01, "The tape": words are
 // little-endian.
+#![tactic(auto)]
+
 ghost use Rattle.std.specs.Prelude.{◌≡◌, ◌+◌, ◌≤◌, ◌<◌, length, [], ◌∷◌};
 ghost use Rattle.machine.specs.Bytes.{number, bytes as bytes_of, splice};
 

@@ -1,4 +1,6 @@
 // The load call: a tape of events drawn from a seed, which anyone can repeat. Document 02, A.1.
+#![tactic(auto)]
+
 ghost use Rattle.std.specs.Prelude.{◌≡◌, ◌+◌, ◌*◌, ◌≤◌, ◌<◌, length};
 ghost use Rattle.machine.specs.Bytes.{splice};
 ghost use Rattle.machine.specs.Tape.{event_bytes, list_bytes, block_for};

@@ -3,6 +3,8 @@
 //
 // All numbers come from the library's own functions; what it must write (`stdout`) was calculated apart from this
 // repository, by a program written from the documents alone.
+#![tactic(auto)]
+
 ghost use Rattle.std.specs.Prelude.{◌≤◌, length};
 
 use event::Event;

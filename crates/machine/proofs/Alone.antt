@@ -16,7 +16,7 @@ use borrow.Author.Tests.{leb-true, le-leb}
 use Rattle.machine.specs.declared.Counts.{Counts}
 use Rattle.machine.specs.Bytes.{bit}
 use Rattle.machine.specs.Image.{State}
-use Rattle.machine.specs.Stages.{filled, receiving}
+use Rattle.machine.specs.Stages.{receiving}
 use Rattle.machine.specs.Fresh.{fresh_state}
 use Rattle.machine.specs.Events.{Event, process_at}
 use Rattle.machine.specs.Stopped.{stopped, Stopped}

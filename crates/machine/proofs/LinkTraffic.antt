@@ -11,7 +11,6 @@ use lib.ListN.{length}
 use Rattle.machine.specs.declared.Process.{Process}
 use Rattle.machine.specs.declared.Reaction.{Reaction}
 use Rattle.machine.specs.declared.Traffic.{Traffic}
-use Rattle.machine.specs.Bytes.{bit}
 use Rattle.machine.specs.Image.{State}
 use Rattle.machine.specs.Events.{Event, process_at, reaction, outcome, apply}
 use Rattle.machine.specs.Stopped.{is_idle}

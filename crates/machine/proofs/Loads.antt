@@ -9,7 +9,7 @@ use lib.ListN.{length, take}
 use lib.Seq.{take_at}
 use lib.Dec.{eqb}
 use borrow.Author.Tests.{eqb-true, eqb-false, eq-eqb, ne_eqb}
-use Rattle.machine.specs.Bytes.{part, bytes}
+use Rattle.machine.specs.Bytes.{part}
 use Rattle.machine.specs.Lists.{tabulate, join}
 use Rattle.machine.specs.Events.{Event}
 use Rattle.machine.specs.Tape.{event_bytes, list_bytes, blocks_for}

@@ -1,14 +1,15 @@
 // The values that document 01's rules speak of. The rules themselves stand in specs/, over these very types.
+#![tactic(auto)]
 
 // One bit for each status: full and empty.
-#[derive(Drop)]
+#[derive(Clone, Copy)]
 pub struct Pair {
     pub full: bool,
     pub empty: bool,
 }
 
 // How many processes are marked for full and for empty.
-#[derive(Drop)]
+#[derive(Clone, Copy)]
 pub struct Marked {
     pub full: u8,
     pub empty: u8,
@@ -16,7 +17,7 @@ pub struct Marked {
 
 // The one envelope: the token of a token ring, which may carry a message. A marker on it is a pending demand for one of
 // its statuses, and `marked` counts the waiters that it has passed and must come back to.
-#[derive(Drop)]
+#[derive(Clone, Copy)]
 pub struct Envelope {
     pub full: bool,
     pub marker: Pair,
@@ -27,7 +28,7 @@ pub struct Envelope {
 // A process: a node of the ring with its main, get and put threads. `asked` is asked by the right, `itself` asked the
 // left itself, `link` a request on the link from the right. The put thread's `news` is its wake-up flag, a `mark` makes
 // the process a waiter that the envelope counts, and the note is the send buffer: the message to send.
-#[derive(Drop)]
+#[derive(Clone, Copy)]
 pub struct Process {
     pub stage: u8,
     pub have: bool,
@@ -41,7 +42,7 @@ pub struct Process {
 }
 
 // What an event at a process came to.
-#[derive(Drop)]
+#[derive(Clone, Copy)]
 pub enum Outcome {
     Idle,
     Moved,
@@ -53,7 +54,7 @@ pub enum Outcome {
 
 // What an event at one process does: to its record and to the envelope, the requests that it puts on the link to the
 // left, whether the envelope leaves to the right, and the outcome.
-#[derive(Drop)]
+#[derive(Clone, Copy)]
 pub struct Reaction {
     pub process: Process,
     pub envelope: Envelope,
@@ -63,7 +64,7 @@ pub struct Reaction {
 }
 
 // The eight counts of a run, in their order.
-#[derive(Drop)]
+#[derive(Clone, Copy)]
 pub struct Counts {
     pub puts: u64,
     pub gets: u64,
@@ -77,14 +78,14 @@ pub struct Counts {
 
 // The link traffic of an event, or of a list of them: how many requests went on the link to the left, also where one
 // waits there and absorbs it, and how often the envelope left to the right.
-#[derive(Drop)]
+#[derive(Clone, Copy)]
 pub struct Traffic {
     pub requests: u64,
     pub departures: u64,
 }
 
 // The rows of the table of refusals, in the order of their numbers; those with a place hold it.
-#[derive(Drop)]
+#[derive(Clone, Copy)]
 pub enum Refusal {
     Size,
     Home,
@@ -100,7 +101,7 @@ pub enum Refusal {
 }
 
 // What a test answers.
-#[derive(Drop)]
+#[derive(Clone, Copy)]
 pub enum Verdict {
     Fine,
     Refused(Refusal),

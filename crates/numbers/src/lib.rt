@@ -1,5 +1,7 @@
 // The documents' numbers: of an outcome, with its message, of a refusal, with its place, and of a verdict likewise; and
 // the refusal of a verdict. Document 01, "The eight events" and "Where a call is turned down".
+#![tactic(auto)]
+
 ghost use Rattle.std.specs.Prelude.{◌≡◌};
 ghost use Rattle.machine.specs.Run.{outcome_number, outcome_message};
 ghost use Rattle.machine.specs.Refusals.{number_of, place_of};

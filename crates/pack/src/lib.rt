@@ -1,4 +1,6 @@
 // Events packed into blocks of 63 slots, and taken out again. Document 01, "The tape".
+#![tactic(auto)]
+
 ghost use Rattle.std.specs.Prelude.{◌≡◌, ◌+◌, ◌*◌, ◌/◌, ◌≤◌, ◌<◌, length};
 ghost use Rattle.machine.specs.Bytes.{part, splice};
 ghost use Rattle.machine.specs.Lists.{join, tabulate};

@@ -1,5 +1,7 @@
 // An event performed on an image: its reaction, written into its own record, the header and the record of the neighbour
 // that it reaches. Document 01, "The eight events".
+#![tactic(auto)]
+
 ghost use Rattle.std.specs.Prelude.{◌≡◌, ◌+◌, ◌*◌, ◌≤◌, ◌<◌, length};
 ghost use Rattle.std.specs.Int.Bits.{bit_or};
 ghost use Rattle.machine.specs.Bytes.{number, bytes as bytes_of, splice};
@@ -18,7 +20,7 @@ use record::process::Record;
 
 // What a performed event came to: its outcome, and what it adds to a word of counts beside it, by its start and its
 // traffic.
-#[derive(Drop)]
+#[derive(Clone, Copy)]
 pub struct Done {
     pub outcome: Outcome,
     pub counted: u64,

@@ -1,1 +1,3 @@
 // Traffic on a quiet ring: definitions and proofs alone, no code.
+#![tactic(auto)]
+

@@ -1,5 +1,7 @@
 // What an event does, by value: its reaction in words, and in module put the put thread's, whose parts are many.
 // Document 01, "The eight events".
+#![tactic(auto)]
+
 ghost use Rattle.std.specs.Prelude.{◌≡◌, ◌<◌};
 ghost use Rattle.reaction.specs.Reaction.{asks_in, leaves_in, traffic_word, traffic_by};
 
@@ -11,7 +13,7 @@ pub mod put; // put.rt: the put thread, code 7
 
 // Which neighbour an event reaches: none, the left with requests for its link, or the right with the envelope. Requests
 // are 0 to 3: a put without the envelope always reaches the left, since whether it asks for anything can't be foreseen.
-#[derive(Drop)]
+#[derive(Clone, Copy)]
 pub enum Reach {
     Own,
     Left(u64),
@@ -39,7 +41,7 @@ impl Reach {
 
 // What an event does: to its own record and to the header, which neighbour it reaches, what it counts as started, and
 // the outcome.
-#[derive(Drop)]
+#[derive(Clone, Copy)]
 pub struct Reaction {
     pub own: Record,
     pub header: Header,

@@ -10,7 +10,7 @@ ghost use Rattle.record.specs.Words.{full_of, counted_as, TidyHeader, shown_enve
 use little_endian::{eight_at, put_word};
 
 // The header's two words.
-#[derive(Drop)]
+#[derive(Clone, Copy)]
 pub struct Header {
     pub word: u64,
     pub message: u64,

@@ -11,7 +11,7 @@ use little_endian::{eight_at, put_word};
 
 // A struct around the word, and no struct of its bytes: those would be taken apart and put together again wherever two
 // ways meet, at twice the instructions.
-#[derive(Drop)]
+#[derive(Clone, Copy)]
 pub struct Record {
     pub word: u64,
 }

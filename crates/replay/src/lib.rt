@@ -2,6 +2,8 @@
 // replay, whole where all of them are asked for. And whether a ledger has room for the records: known at once where it
 // has room for a record an event, else counted on a spare copy of the image, so that nothing lent has changed when a
 // run is refused. Document 01, "The run".
+#![tactic(auto)]
+
 ghost use Rattle.std.specs.Prelude.{◌≡◌, leb, length};
 ghost use Rattle.machine.specs.Image.{state_in, image_with};
 ghost use Rattle.machine.specs.Run.{no_counts, counts_from, after};
@@ -13,7 +15,7 @@ use span::copy;
 use turns::{added_to, carried_to, turns};
 
 // What the events came to: their counts, and their traffic.
-#[derive(Drop)]
+#[derive(Clone, Copy)]
 pub struct Played {
     pub counts: Counts,
     pub traffic: Traffic,

@@ -1,4 +1,6 @@
 // What ringrun writes, as a function of its whole input. Document 01, "The tape", its last paragraph.
+#![tactic(auto)]
+
 ghost use Rattle.std.specs.Prelude.{◌≡◌, ◌≤◌, ◌<◌, min, length, get_or};
 ghost use Rattle.machine.specs.declared.Verdict.TheVariants as verdict;
 ghost use Rattle.machine.specs.Image.{size_in, state_in};
@@ -23,7 +25,7 @@ pub const MOST_INPUT: usize = 32770;
 pub const MOST_TEXT: usize = 125183;
 
 // What the report call answers: how many bytes the text has.
-#[derive(Drop)]
+#[derive(Clone, Copy)]
 pub enum ReportAnswer {
     Done(usize),
     Refused(Refusal),

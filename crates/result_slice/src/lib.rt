@@ -1,5 +1,7 @@
 // The result slice of the suite's host: ten 64-bit words from its start. Document 01, "The tape", the sentences on the
 // suite's host.
+#![tactic(auto)]
+
 ghost use Rattle.std.specs.Prelude.{◌≡◌, [], ◌∷◌, ◌≤◌, length};
 ghost use Rattle.machine.specs.Bytes.{splice};
 ghost use Rattle.machine.specs.Refusals.{number_of, place_of};

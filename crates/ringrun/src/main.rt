@@ -6,6 +6,8 @@
 // more than can be accepted is enough to know that there is too much, so no more is read. `main` has no contract:
 // proved of it is that it stays within its buffers and ends. That it read one byte too few would be seen by the samples
 // alone (`size-64-blocks-and-a-byte`), and so would text that it left out.
+#![tactic(auto)]
+
 use libc::{STDIN_FILENO, STDOUT_FILENO};
 use report::{MOST_INPUT, MOST_TEXT, ReportAnswer, report};
 

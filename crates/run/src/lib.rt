@@ -1,5 +1,7 @@
 // The run call: an image, a tape and a ledger buffer. Everything is tested before a lent byte changes; then every event
 // is performed. Document 01, "The run".
+#![tactic(auto)]
+
 ghost use Rattle.std.specs.Prelude.{◌≡◌};
 ghost use Rattle.machine.specs.Image.{size_in};
 ghost use Rattle.machine.specs.Refusals.{codes, image_verdict, tape_verdict, or_else};
@@ -15,7 +17,7 @@ use sound::image_verdict;
 use tape_test::{event_count, tape_verdict};
 
 // What the run call answers.
-#[derive(Drop)]
+#[derive(Clone, Copy)]
 pub enum RunAnswer {
     Done(Counts, Traffic),
     Refused(Refusal),

@@ -1,5 +1,7 @@
 // Whether an image is sound, and what one walk over its records finds, sound or not: the survey call. Document 01, "The
 // image", its paragraph on soundness; document 02, A.3.
+#![tactic(auto)]
+
 ghost use Rattle.std.specs.Prelude.{◌≡◌, ◌+◌, ◌*◌, ◌/◌, ◌%◌, ◌≤◌, length, eqb};
 ghost use Rattle.machine.specs.declared.Verdict.TheVariants as verdict;
 ghost use Rattle.machine.specs.Bytes.{number};
@@ -19,7 +21,7 @@ pub mod walk;
 
 // What a survey finds: the verdict of soundness, how many have and arriving flags are set, and the sets of the
 // processes marked for full and for empty, whose digit i is process i.
-#[derive(Drop)]
+#[derive(Clone, Copy)]
 pub struct Findings {
     pub verdict: Verdict,
     pub flags: u64,
@@ -28,7 +30,7 @@ pub struct Findings {
 }
 
 // What the survey call answers.
-#[derive(Drop)]
+#[derive(Clone, Copy)]
 pub enum Surveyed {
     Done(Findings),
     Refused(Refusal),

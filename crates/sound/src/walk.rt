@@ -9,7 +9,7 @@ use little_endian::eight_at;
 // What a walk gathers of the records behind it: the first whose bytes aren't in range, or where they end; every bit
 // that is left under a record's mask; a sum of the have and arriving flags, with marks summed up above them; and the
 // sets of the processes marked for full and for empty.
-#[derive(Drop)]
+#[derive(Clone, Copy)]
 pub struct Walk {
     pub first: usize,
     pub left: u64,

@@ -1,4 +1,6 @@
 // Stretches of bytes: cleared, copied, tested for zeros.
+#![tactic(auto)]
+
 ghost use Rattle.std.specs.Prelude.{◌≡◌, ◌+◌, ◌≤◌, length, replicate};
 ghost use Rattle.machine.specs.Bytes.{part, zeros, splice};
 

@@ -1,4 +1,6 @@
 // The step call: an image and one event. Document 01, "The eight events".
+#![tactic(auto)]
+
 ghost use Rattle.std.specs.Prelude.{◌≡◌, ◌%◌, ◌≤◌, length, get_or};
 ghost use Rattle.machine.specs.Bytes.{number};
 ghost use Rattle.machine.specs.Answers.{step_verdict, step_answer, step_image};
@@ -12,7 +14,7 @@ use sound::image_verdict;
 use turns::{traffic_in, turns};
 
 // What the step call answers.
-#[derive(Drop)]
+#[derive(Clone, Copy)]
 pub enum StepAnswer {
     Done(Outcome, Traffic),
     Refused(Refusal),

@@ -1,5 +1,7 @@
 // The stopped call: yes exactly when no process has an event of the codes 2 to 7 that would do anything. Document 01,
 // "The eight events", its last paragraph.
+#![tactic(auto)]
+
 ghost use Rattle.std.specs.Prelude.{◌≡◌, ◌+◌, ◌*◌, ◌≤◌, length, true};
 ghost use Rattle.machine.specs.Answers.{stopped_answer};
 ghost use Rattle.machine.specs.Sound.{records_fit};
@@ -11,7 +13,7 @@ use numbers::refusal_of;
 use sound::image_verdict;
 
 // What the stopped call answers.
-#[derive(Drop)]
+#[derive(Clone, Copy)]
 pub enum StoppedAnswer {
     Yes,
     No,

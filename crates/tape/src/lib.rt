@@ -1,4 +1,6 @@
 // The writer and reader calls: a list of event bytes made into a tape, and a tape read back. Document 01, "The tape".
+#![tactic(auto)]
+
 ghost use Rattle.std.specs.Prelude.{◌≡◌};
 ghost use Rattle.machine.specs.Refusals.{or_else, codes, size_verdict, list_verdict, tape_verdict};
 ghost use Rattle.machine.specs.Answers.{write_answer, write_output, read_answer, read_output};
@@ -12,7 +14,7 @@ use pack::{blocks_for, pack, unpack};
 use tape_test::{event_count, list_verdict, tape_verdict};
 
 // What the writer and the reader answer: how many bytes of the output they filled.
-#[derive(Drop)]
+#[derive(Clone, Copy)]
 pub enum Filled {
     Done(usize),
     Refused(Refusal),

@@ -1,5 +1,7 @@
 // The tests of a tape and of a list. A tape: its length, then block by block the check, number and count, the events of
 // its used slots, and its unused slots. A list: its length, then its events. Document 01, the order under its table.
+#![tactic(auto)]
+
 ghost use Rattle.std.specs.Prelude.{◌≡◌, ◌+◌, ◌*◌, ◌≤◌, ◌<◌, length};
 ghost use Rattle.machine.specs.Refusals as rule;
 ghost use Rattle.tape_test.specs.Accepted.{head_verdict, events_on, Accepted};

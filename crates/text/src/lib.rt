@@ -1,6 +1,8 @@
 // Text in ASCII, written into lent bytes: numbers in decimal, texts, and either as a field of a line, with the byte
 // that parts or ends it. Every function answers the place where the text goes on. Document 01, "The tape", its last
 // paragraph.
+#![tactic(auto)]
+
 ghost use Rattle.std.specs.Prelude.{◌≡◌, [], ◌∷◌, ◌++◌, ◌+◌, ◌≤◌, length};
 ghost use Rattle.machine.specs.Text.{decimal};
 ghost use Rattle.text.specs.Piece.{Piece};

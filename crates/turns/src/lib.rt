@@ -1,5 +1,7 @@
 // Events performed one after the other on an accepted image, with their records in the ledger: the one loop that a step
 // and a run go through. Document 01, "The run"; document 02, A.4.
+#![tactic(auto)]
+
 ghost use Rattle.std.specs.Prelude.{◌≡◌, ◌-◌, ◌^◌, ◌<◌};
 ghost use Rattle.machine.specs.Image.{state_in};
 ghost use Rattle.machine.specs.Traffic.{together};
