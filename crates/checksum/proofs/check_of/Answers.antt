@@ -30,9 +30,11 @@ loop-j-preserved c =
       omega arith,
       omega arith,
       omega arith,
-      slot_summed c.args.tape.now c.args.b c.requires below c.word_at-first.ensures.0 c.word_at-second.ensures.0 c.word_at-third.ensures.0 c.word_at-fourth.ensures.0 c.loop-j.invariant.9,
+      slot_summed c.args.tape.now c.args.b c.requires below c.word_at-first.ensures.0 c.word_at-second.ensures.0
+          c.word_at-third.ensures.0 c.word_at-fourth.ensures.0 c.loop-j.invariant.9,
     )
 
 pub returns : goal.returns
 returns c =
-    sums_check c.args.tape.now c.args.b c.requires c.word_at-number.ensures.0 c.word_at-count.ensures.0 (omega arith) c.loop-j.invariant.9
+    sums_check c.args.tape.now c.args.b c.requires c.word_at-number.ensures.0 c.word_at-count.ensures.0 (omega arith)
+    c.loop-j.invariant.9
