@@ -15,8 +15,8 @@ use Rattle.tape_test.proofs.Ways.{test_refused, test_fine, slots_start, tape_len
 use Rattle.tape_test.proofs.tape_verdict.Goals as goal
 
 -- a block whose head is fine uses at most 63 slots
-few_used : (codes n : ℕ) (s : List ℕ) (b : ℕ) {count : ℕ} → head_verdict s b ≡ Fine → count ≡ block_count s b → count
-    ≤ 63
+few_used : (codes n : ℕ) (s : List ℕ) (b : ℕ) {count : ℕ} → head_verdict s b ≡ Fine → count ≡ block_count s b
+    → count ≤ 63
 few_used codes n s b fine counts = omega (arith, head_count codes n s b fine)
 
 pub returns-in_default : goal.returns-in_default

@@ -8,13 +8,13 @@ use Rattle.tape_test.proofs.tape_verdict.Given as goal
 
 abbrev pub invariant-loop-j : goal.invariant-loop-j
 invariant-loop-j l =
-    (l.j ≤ l.count) × (l.verdict ≡ Fine) ×
-    (first (slot_test l.codes l.n l.tape l.b) l.j (l.count - l.j) ≡ used_verdict l.codes l.n l.tape l.b)
+    (l.j ≤ l.count) × (l.verdict ≡ Fine)
+    × (first (slot_test l.codes l.n l.tape l.b) l.j (l.count - l.j) ≡ used_verdict l.codes l.n l.tape l.b)
 
 abbrev pub invariant-blocks-2 : goal.invariant-blocks-2
 invariant-blocks-2 l =
-    (l.b ≤ l.b-end) × (l.verdict ≡ Fine) ×
-    (first (block_verdict l.codes l.n l.tape) l.b (l.b-end - l.b) ≡ tape_verdict l.codes l.n l.tape)
+    (l.b ≤ l.b-end) × (l.verdict ≡ Fine)
+    × (first (block_verdict l.codes l.n l.tape) l.b (l.b-end - l.b) ≡ tape_verdict l.codes l.n l.tape)
 
 abbrev pub decreases-blocks-2 : goal.decreases-blocks-2
 decreases-blocks-2 l = l.b-end - l.b
