@@ -44,6 +44,7 @@ const STARTS: u64 = STARTS_PUT + STARTS_GET;
 const NONE: u64 = 0x1000_0000;
 
 // The codes that a stage makes possible. One value an arm and a last entry of its own, so that they lie in one table.
+#[tactic(auto, unfolding(crate::specs::Rows::codes_at))]
 fn codes_at(stage: u64) -> u64
     requires { stage < 16 }
     ensures { result ≡ codes_at stage }
@@ -65,6 +66,7 @@ fn codes_at(stage: u64) -> u64
 const LINK_EMPTY: u64 = 2 * process::LINK;
 
 // The bit that makes an event possible, by code. All codes are named, so that the table needs no test of its range.
+#[tactic(auto, unfolding(crate::specs::Rows::need_of))]
 fn need_of(code: u8) -> u64
     requires { code < 8 }
     ensures { result ≡ need_of code }
@@ -117,6 +119,7 @@ const HEARS_EMPTY: u64 = LINK_EMPTY + 2 * process::ASKED + process::NEWS;
 const HEARD_EMPTY: u64 = 2 * process::ASKED + process::NEWS;
 
 // A row for each code: one match that hands back all of it, since two matches over one value become a jump.
+#[tactic(auto, unfolding(crate::specs::Rows::row_of))]
 fn row_of(code: u8) -> Row
     requires { code < 8 }
     ensures { result ≡ row_of code }

@@ -11,7 +11,6 @@ use borrow.Author.Tests.{ne_eqb}
 use Rattle.machine.specs.declared.Envelope.{Envelope}
 use Rattle.machine.specs.Bytes.{bit_of}
 use Rattle.machine.specs.Lists.{every}
-use Rattle.machine.specs.Fields.{count}
 use Rattle.machine.specs.Image.{pair_of}
 use Rattle.machine.specs.Events.{positive, wanted}
 use Rattle.machine.proofs.Laws.Lists.{agree}

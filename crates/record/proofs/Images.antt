@@ -3,19 +3,16 @@
 -- the rules stay as they are. In order (Tidy) means that no bit is set that no rule names, as in every accepted image.
 -- Bits set, off or added act on each field of a word by itself, stage, flags, requests and marks, note (Fields,
 -- Changes, and Headers of the header); what that does to a field the checker computes at every value of it (Pairs).
-use Prim.Native.Nat.{ℕ, ◌+◌, ◌/◌, ◌%◌, ◌^◌, ◌≤◌, ◌<◌}
+use Prim.Native.Nat.{ℕ, ◌/◌, ◌%◌, ◌^◌, ◌≤◌, ◌<◌}
 use mathlib.Core.Path.{◌≡◌, refl, sym, ap, subst, ◌∙◌}
-use mathlib.Core.Bool.{true}
 use mathlib.Core.List.{List, [], ◌∷◌, ◌++◌}
 use native.Mathlib.Omega.{arith}
 use lib.ListN.{length, get_or, take, drop}
 use lib.Seq.{take_at}
-use lib.Dec.{eqb}
 use borrow.Author.Tests.{eqb-true}
-use Rattle.machine.specs.declared.Envelope.{Envelope}
 use Rattle.machine.specs.declared.Process.{Process}
 use Rattle.machine.specs.declared.Verdict.TheVariants.{Fine}
-use Rattle.machine.specs.Bytes.{Bytes, bit, little_endian_of, number, bytes, splice}
+use Rattle.machine.specs.Bytes.{Bytes, little_endian_of, number, bytes, splice}
 use Rattle.machine.specs.Ring.{record_at}
 use Rattle.machine.specs.Image.{State, flag_bits, request_bits, envelope_in, process_bytes}
 use Rattle.machine.specs.Image.{header_bytes, image_with, size_in, state_in, with_process, with_envelope}

@@ -2,6 +2,5 @@
 // "The image".
 #![tactic(auto)]
 
-
 pub mod process; // process.rt: a process record
 pub mod header; // header.rt: the header

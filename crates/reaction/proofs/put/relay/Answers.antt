@@ -1,0 +1,11 @@
+-- With the envelope forward, without it pass requests.
+use borrow.Author.Rules.{rules}
+use Rattle.reaction.proofs.Stages.{relay_have, relay_without}
+use Rattle.reaction.proofs.put.relay.Goals as goal
+
+pub returns-then-has_envelope : goal.returns-then-has_envelope
+returns-then-has_envelope c =
+    search (rules, relay_have)
+
+pub returns-else-has_envelope : goal.returns-else-has_envelope
+returns-else-has_envelope c = search (rules, relay_without)
