@@ -11,10 +11,8 @@ use borrow.Author.Tests.{not-true, not-false}
 use lib.Dec.{eqb}
 use mir.Syntax.{w64}
 use mir.Val.{Fits}
-use Rattle.machine.specs.declared.Envelope.{Envelope}
 use Rattle.machine.specs.declared.Process.{Process}
 use Rattle.machine.specs.declared.Outcome.TheVariants.{Idle}
-use Rattle.machine.specs.declared.Reaction as rule-reaction
 use Rattle.machine.specs.Bytes.{Bytes, number, bit_of}
 use Rattle.machine.specs.Ring.{record_at}
 use Rattle.machine.specs.Image.{size_in, state_in, image_with}

@@ -2,15 +2,14 @@
 -- are the rule's `place`. Each write into the image of a state is the image of the state with one element replaced
 -- (machine/proofs/Image). In a ring of two or more a neighbour is another process, so what is read of it is what stood
 -- there. Where nothing is asked or the envelope stays, the rule's change is no change (Idle.unchanged).
-use Prim.Native.Nat.{ℕ, ◌+◌, ◌*◌, ◌%◌, ◌≤◌, ◌<◌}
+use Prim.Native.Nat.{ℕ, ◌*◌, ◌%◌, ◌≤◌, ◌<◌}
 use mathlib.Core.Path.{◌≡◌, sym, ap, subst, ◌∙◌}
 use mathlib.Core.Bool.{true, false}
 use mathlib.Core.List.{List, ◌++◌}
 use native.Mathlib.Omega.{arith}
-use lib.ListN.{length, set, length-set}
+use lib.ListN.{length, length-set}
 use lib.Seq.{get_or-set_other}
 use lib.Bits.{bit_or}
-use Rattle.machine.specs.declared.Envelope.{Envelope}
 use Rattle.machine.specs.declared.Process.{Process}
 use Rattle.machine.specs.Bytes.{Bytes, number, bytes, splice}
 use Rattle.machine.specs.Ring.{left, right, record_at}

@@ -1,6 +1,6 @@
 -- The walk over the records, step by step: at first it holds what the rules say of no record, and after each step what
 -- they say of one record more.
-use Prim.Native.Nat.{ℕ, zero, suc, ◌+◌, ◌-◌, ◌*◌, ◌/◌, ◌%◌, ◌^◌, ◌≤◌, ◌<◌}
+use Prim.Native.Nat.{ℕ, suc, ◌+◌, ◌-◌, ◌*◌, ◌/◌, ◌%◌, ◌^◌, ◌≤◌, ◌<◌}
 use mathlib.Core.Path.{◌≡◌, refl, ◌∙◌}
 use mathlib.Core.Bool.{true, cond, and_comm}
 use mathlib.Core.List.{List, [], ◌∷◌}
@@ -18,7 +18,7 @@ use Rattle.machine.specs.Bytes.{Bytes, bit, number}
 use Rattle.machine.specs.Lists.{tabulate, all, sum}
 use Rattle.machine.specs.Fields.{Status, full, empty, for}
 use Rattle.machine.specs.Image.{process_in}
-use Rattle.machine.specs.Sound.{holds, record_rules, record_rules_in, stage_fits, stages_fit, places, marked_set}
+use Rattle.machine.specs.Sound.{holds, record_rules_in, stage_fits, stages_fit, places, marked_set}
 use Rattle.machine.proofs.Laws.Bits.{bit_le, is_bit}
 use Rattle.machine.proofs.Laws.Bytes.{number_4, number_8, number_lt}
 use Rattle.machine.proofs.Laws.Lists.{and_first, and_second, length_tabulate}
