@@ -10,7 +10,7 @@ use lib.Dec.{eqb}
 use borrow.Author.Tests.{lt-ltb, eqb-false}
 use Rattle.machine.specs.declared.Refusal.TheVariants as refusal
 use Rattle.machine.specs.declared.Verdict.TheVariants.{Fine}
-use Rattle.machine.specs.Bytes.{Bytes, number, bytes, all_zero, zeros}
+use Rattle.machine.specs.Bytes.{Bytes, bytes, all_zero, zeros}
 use Rattle.machine.specs.Lists.{tabulate, all}
 use Rattle.machine.specs.Image.{State, size_in, state_in, image_with}
 use Rattle.machine.specs.Events.{Event, outcome}

@@ -1,6 +1,6 @@
 -- Events drawn one after the other are the load's: each is the first of a load from the number drawn last, and a load
 -- from there goes on with the seed's. A block's events are so the stretch of the list that the writer puts into it.
-use Prim.Native.Nat.{ℕ, ◌+◌, ◌-◌, ◌*◌, ◌/◌, ◌%◌, ◌≤◌, ◌<◌}
+use Prim.Native.Nat.{ℕ, ◌+◌, ◌*◌, ◌/◌, ◌%◌, ◌≤◌, ◌<◌}
 use mathlib.Core.Path.{◌≡◌, sym, ap, ap₂, ◌∙◌}
 use mathlib.Core.Bool.{cond}
 use mathlib.Core.List.{List}
@@ -9,7 +9,7 @@ use native.Mathlib.Nat.{mul-add-mod_self_left, mod-eq_of_lt, mod-lt}
 use lib.ListN.{length}
 use lib.Dec.{eqb}
 use borrow.Author.Tests.{eq-eqb, ne_eqb}
-use Rattle.machine.specs.Bytes.{part, bytes, splice}
+use Rattle.machine.specs.Bytes.{part, splice}
 use Rattle.machine.specs.Lists.{tabulate}
 use Rattle.machine.specs.Tape.{event_bytes, list_bytes, block_bytes, padded, block_for}
 use Rattle.machine.specs.Load.{next, drawn, event_by, load_event, load_events}

@@ -11,7 +11,7 @@ use lib.ListN.{length, take}
 use lib.Dec.{eqb}
 use borrow.Author.Tests.{lt-ltb}
 use Rattle.machine.specs.declared.Verdict.TheVariants.{Fine}
-use Rattle.machine.specs.Bytes.{part, number, bytes, all_zero, zeros, splice}
+use Rattle.machine.specs.Bytes.{part, bytes, all_zero, zeros, splice}
 use Rattle.machine.specs.Lists.{tabulate}
 use Rattle.machine.specs.Events.{Event}
 use Rattle.machine.specs.Tape.{event_in, events_in, event_bytes, list_bytes, slot_at, list_of}
