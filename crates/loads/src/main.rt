@@ -8,9 +8,9 @@
 ghost use Rattle.std.specs.Prelude.{◌≤◌, length};
 
 use event::Event;
-use libc::STDOUT_FILENO;
 use little_endian::{number_at, wide64, word_at};
 use load::{load, next};
+use std::io;
 use tape::Filled;
 use text::{decimal_field, put_text};
 
@@ -18,62 +18,63 @@ use text::{decimal_field, put_text};
 const PUBLISHED: usize = 10000;
 
 // A word, a number, and the byte behind it.
-fn say(word: &[u8], number: u64, behind: u8)
+fn say(rt: &HostRuntime, word: &[u8], number: u64, behind: u8) -> io::Result<()>
     requires { length word.now ≤ 8 }
 {
     let mut page = [0; 32];
     let at = put_text(&mut page, 0, word);
     let end = decimal_field(&mut page, at, number, behind);
-    io::write_all(STDOUT_FILENO, &page[..end]);
+    rt.write_all(&page[..end])
 }
 
 // A block of a tape: its number, its count and its check.
-fn say_block(tape: &[u8; 2048], b: usize)
+fn say_block(rt: &HostRuntime, tape: &[u8; 2048], b: usize) -> io::Result<()>
     requires { b ≤ 3 }
 {
-    say(b"block ", word_at(tape, 512 * b) as u64, b' ');
-    say(b"events ", word_at(tape, 512 * b + 2) as u64, b' ');
-    say(b"check ", number_at(tape, 512 * b + 4) as u64, b'\n');
+    say(rt, b"block ", word_at(tape, 512 * b) as u64, b' ')?;
+    say(rt, b"events ", word_at(tape, 512 * b + 2) as u64, b' ')?;
+    say(rt, b"check ", number_at(tape, 512 * b + 4) as u64, b'\n')
 }
 
 // An event of a tape's first block: its number, process, code and message.
-fn say_event(tape: &[u8; 2048], k: usize)
+fn say_event(rt: &HostRuntime, tape: &[u8; 2048], k: usize) -> io::Result<()>
     requires { k ≤ 7 }
 {
     let event = Event::parse(tape, 8 + 8 * k);
-    say(b"", k as u64, b' ');
-    say(b"", event.process as u64, b' ');
-    say(b"", wide64(event.code), b' ');
-    say(b"", event.message as u64, b'\n');
+    say(rt, b"", k as u64, b' ')?;
+    say(rt, b"", event.process as u64, b' ')?;
+    say(rt, b"", wide64(event.code), b' ')?;
+    say(rt, b"", event.message as u64, b'\n')
 }
 
 // A load of up to four blocks.
-fn say_load(n: u64, seed: u64, count: u64) {
+fn say_load(rt: &HostRuntime, n: u64, seed: u64, count: u64) -> io::Result<()> {
     let mut tape = [0; 2048];
     let answer = load(n, seed, count, &mut tape);
     let Filled::Done(filled) = answer else {
-        return;
+        return Ok(());
     };
-    say(b"load ", n, b' ');
-    say(b"", seed, b' ');
-    say(b"", count, b'\n');
+    say(rt, b"load ", n, b' ')?;
+    say(rt, b"", seed, b' ')?;
+    say(rt, b"", count, b'\n')?;
     for b in 0..4 {
         if 512 * b < filled {
-            say_block(&tape, b);
+            say_block(rt, &tape, b)?;
         }
     }
     for k in 0..8 {
-        say_event(&tape, k);
+        say_event(rt, &tape, k)?;
     }
+    Ok(())
 }
 
-fn main() {
+fn main(rt: HostRuntime) -> io::Result<()> {
     let mut last = 1;
     for _ in 0..PUBLISHED {
         last = next(last);
     }
-    say(b"", last, b'\n');
-    say_load(4, 1, 63);
-    say_load(2, 2147483646, 64);
-    say_load(64, 123456789, 200);
+    say(&rt, b"", last, b'\n')?;
+    say_load(&rt, 4, 1, 63)?;
+    say_load(&rt, 2, 2147483646, 64)?;
+    say_load(&rt, 64, 123456789, 200)
 }

@@ -8,17 +8,35 @@
 // alone (`size-64-blocks-and-a-byte`), and so would text that it left out.
 #![tactic(auto)]
 
-use libc::{STDIN_FILENO, STDOUT_FILENO};
+ghost use Rattle.std.specs.Prelude.{◌≤◌, length, IfOk};
+
 use report::{MOST_INPUT, MOST_TEXT, ReportAnswer, report};
+use std::io;
+use std::io::Read;
+
+// Reads until the input ends or the buffer is full, and returns how many bytes it put at the buffer's start.
+fn read_full(rt: &HostRuntime, input: &mut [u8]) -> io::Result<usize>
+    ensures { IfOk result (λ n. n ≤ length input.new) }
+{
+    let mut count = 0;
+    while count < input.len() {
+        let more = rt.stdin().read(&mut input[count..])?;
+        if more == 0 {
+            break;
+        }
+        count += more;
+    }
+    Ok(count)
+}
 
 // An output of MOST_TEXT bytes is never too short, so the else is never reached.
-fn main() {
+fn main(rt: HostRuntime) -> io::Result<()> {
     let mut input = [0; MOST_INPUT + 1];
-    let count = io::read_full(STDIN_FILENO, &mut input);
+    let count = read_full(&rt, &mut input)?;
     let mut output = [0; MOST_TEXT];
     let answer = report(&input[..count], &mut output);
     let ReportAnswer::Done(end) = answer else {
-        return;
+        return Ok(());
     };
-    io::write_all(STDOUT_FILENO, &output[..end]);
+    rt.write_all(&output[..end])
 }

@@ -41,10 +41,12 @@ fn c_like(said: &str) -> (&str, &str) {
     (&said[at..], said[..at].trim())
 }
 
-/// The functions of a text of Rattle, where a slice is one parameter.
+/// The functions that a text of Rattle exports. There a slice is one parameter, and the result slice is `res`, since
+/// `result` in a clause is what a function returns.
 fn in_rattle(text: &str) -> Functions {
     let parameter = |said: &str| {
         let (name, kind) = rusty(said);
+        let name = if name == "res" { "result" } else { name };
         let kind = match kind {
             "u64" => Kind::Number,
             "&[u8]" => Kind::Read,
@@ -53,7 +55,8 @@ fn in_rattle(text: &str) -> Functions {
         };
         (name.to_string(), kind)
     };
-    declared(text, "pub extern \"C\" fn ", ") -> u64", |said| said.into_iter().map(parameter).collect())
+    let start = "#[unsafe(no_mangle)]\npub extern \"C\" fn ";
+    declared(text, start, ") -> u64", |said| said.into_iter().map(parameter).collect())
 }
 
 /// Parameters among which a slice is two: its pointer, then its length, which has the slice's name and an ending.
