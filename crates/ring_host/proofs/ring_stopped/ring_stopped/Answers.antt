@@ -6,9 +6,9 @@ use Rattle.ring_host.proofs.ring_stopped.ring_stopped.Goals as goal
 
 pub returns-then-res-lt-ROOM : goal.returns-then-res-lt-ROOM
 returns-then-res-lt-ROOM c =
-    let done =
-    stopped_short c.args.image.now c.args.res.now (omega arith) c.image_verdict.ensures
-    c.short.ensures in record { number = done.0; told = done.1 }
+    let done = stopped_short c.args.image.now c.args.res.now (omega arith) c.image_verdict.ensures c.short.ensures
+    in
+    record { number = done.0; told = done.1 }
 
 pub returns-in_default-answer : goal.returns-in_default-answer
 returns-in_default-answer c =
@@ -19,12 +19,12 @@ returns-in_default-answer c =
 
 pub returns-in_default : goal.returns-in_default
 returns-in_default c =
-    let done =
-    stopped_no c.args.image.now c.args.res.now (omega arith) c.stopped-answer.ensures c.in-No.is
-    c.tell_one.ensures in record { number = done.0; told = done.1 }
+    let done = stopped_no c.args.image.now c.args.res.now (omega arith) c.stopped-answer.ensures c.in-No.is
+    c.tell_one.ensures in
+    record { number = done.0; told = done.1 }
 
 pub returns : goal.returns
 returns c =
-    let done =
-    stopped_yes c.args.image.now c.args.res.now (omega arith) c.stopped-answer.ensures c.in-Yes.is
-    c.tell_one-2.ensures in record { number = done.0; told = done.1 }
+    let done = stopped_yes c.args.image.now c.args.res.now (omega arith) c.stopped-answer.ensures c.in-Yes.is
+    c.tell_one-2.ensures in
+    record { number = done.0; told = done.1 }
