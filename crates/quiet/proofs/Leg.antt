@@ -2,12 +2,11 @@
 -- other is possible, and where no put and no get starts there is no further event. So after any list of events it is in
 -- some row, and what was done is what the rows count.
 use Prim.Native.Nat.{ℕ, zero, suc, ◌+◌, ◌≤◌, ◌<◌}
-use mathlib.Core.Path.{◌≡◌, refl, sym, ap, ap₂, ◌∙◌}
-use mathlib.Core.Bool.{Bool, true, false, not, cond, ◌&&◌, true≢false, false≢true}
+use mathlib.Core.Path.{◌≡◌, refl, sym, ap, ◌∙◌}
+use mathlib.Core.Bool.{Bool, true, false, not, cond, ◌&&◌, true≢false}
 use mathlib.Core.List.{List, [], ◌∷◌, ◌++◌}
 use mathlib.Core.Logic.{◌⊎◌, inl, inr, ◌≢◌}
 use native.Mathlib.Omega.{arith}
-use lib.ListN.{length}
 use lib.Dec.{eqb, ltb}
 use borrow.Author.Tests.{eqb-true, ne_eqb, eq-eqb, ltb-true}
 use Rattle.machine.specs.declared.Envelope.{Envelope}
@@ -34,7 +33,7 @@ use Rattle.quiet.proofs.Rows.{Row, pairs, sight, envelope_in, Fits, done_by, ask
 use Rattle.quiet.proofs.Rows.Row.{Rest}
 use Rattle.quiet.proofs.Only.{only_one}
 use Rattle.quiet.proofs.Moves.{makes, shows}
-use Rattle.quiet.proofs.Next.{Leads, Goes, goes}
+use Rattle.quiet.proofs.Next.{Goes, goes}
 
 -- ---- what isn't a start
 
@@ -221,9 +220,9 @@ module _ (n c : ℕ) (two : 2 ≤ n) (below : c < n) (w : Status) (o : Bool) (d 
         record {
           next = row;
           inside = rw (idle_keeps st v idle) inside;
-          done_more = rw idle;
-          asks_more = rw (idle_none st v idle);
-          leaves_more = rw (idle_none st v idle);
+          done_more = rw idle (omega arith);
+          asks_more = rw (idle_none st v idle) (omega arith);
+          leaves_more = rw (idle_none st v idle) (omega arith);
         }
 
     -- and any event that starts nothing
@@ -242,7 +241,7 @@ module _ (n c : ℕ) (two : 2 ≤ n) (below : c < n) (w : Status) (o : Bool) (d 
       → Walked n c w o d m row st vs
   unfolding after done_from traffic_from all
   walk [] row st inside on no_put no_get =
-      record { last = row; inside = inside; done = refl; asks = refl; leaves = refl }
+      record { last = row; inside = inside; done = omega arith; asks = omega arith; leaves = omega arith }
   walk (v ∷ vs) row st inside on no_put no_get =
       let puts = no_start 0 st v vs no_put in
       let gets = no_start 1 st v vs no_get in

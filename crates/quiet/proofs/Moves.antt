@@ -1,10 +1,10 @@
 -- Each row's due event leads to the next row. At its own place the rule of the event is computed; at every other place
 -- the row shows what it showed, but for the request that the place behind gets and the envelope that the place before
 -- gets.
-use Prim.Native.Nat.{ℕ, zero, suc, ◌+◌, ◌-◌, ◌*◌, ◌≤◌, ◌<◌}
-use mathlib.Core.Path.{◌≡◌, refl, ap, ◌∙◌}
-use mathlib.Core.Bool.{Bool, true, false, not, cond, ◌&&◌, ◌||◌}
-use mathlib.Core.Logic.{◌⊎◌, inl, inr, ◌≢◌}
+use Prim.Native.Nat.{ℕ, ◌+◌, ◌-◌, ◌≤◌, ◌<◌}
+use mathlib.Core.Path.{◌≡◌, refl, ◌∙◌}
+use mathlib.Core.Bool.{Bool, true, false, cond, ◌&&◌}
+use mathlib.Core.Logic.{◌≢◌}
 use native.Mathlib.Omega.{arith}
 use lib.Dec.{eqb, leb, ltb}
 use borrow.Author.Tests.{eqb-true, ne_eqb, eq-eqb, le-leb, ltb-true, lt-ltb}
@@ -13,15 +13,13 @@ use Rattle.machine.specs.declared.Process.{Process}
 use Rattle.machine.specs.declared.Reaction.{Reaction}
 use Rattle.machine.specs.declared.Outcome.{Outcome}
 use Rattle.machine.specs.declared.Outcome.TheVariants.{Moved, Fill, Take, Sent, Got}
-use Rattle.machine.specs.Bytes.{bit}
 use Rattle.machine.specs.Fields.{Status, none}
 use Rattle.machine.specs.Events.{ask, pass_for, pass, clear, unmark, wanted, leave, set_markers, forward, ends}
 use Rattle.machine.specs.Events.{relay, wait, end_put, put_at, work, signal, receive, take_request, put, react}
 use Rattle.machine.specs.Events.{requested, arrived}
-use Rattle.machine.specs.Stopped.{is_idle}
 use Rattle.machine.proofs.Soundness.Around.{no_request, no_arrival}
-use Rattle.quiet.proofs.Seen.{reached, same_test}
-use Rattle.quiet.proofs.Rows.{Row, pairs, sight, look, envelope_in, before, behind, Fits, done_by, asks_by, leaves_by}
+use Rattle.quiet.proofs.Seen.{same_test}
+use Rattle.quiet.proofs.Rows.{Row, pairs, sight, look, envelope_in, before}
 use Rattle.quiet.proofs.Rows.Row.{Told, Asking, Asked, Coming, Come, May, Done, Noted, Rest}
 
 -- ---- laws of tests

@@ -8,9 +8,6 @@ use mathlib.Core.Bool.{Bool, true, false, cond, ◌&&◌}
 use mathlib.Core.Logic.{◌⊎◌, inl, inr, ◌≢◌}
 use native.Mathlib.Omega.{arith}
 use lib.Dec.{eqb}
-use Rattle.machine.specs.declared.Envelope.{Envelope}
-use Rattle.machine.specs.declared.Process.{Process}
-use Rattle.machine.specs.declared.Reaction.{Reaction}
 use Rattle.machine.specs.declared.Outcome.{Outcome}
 use Rattle.machine.specs.declared.Outcome.TheVariants.{Moved, Fill, Take, Sent, Got}
 use Rattle.machine.specs.Bytes.{bit}
@@ -19,7 +16,7 @@ use Rattle.machine.specs.Events.{react, requested, arrived}
 use Rattle.machine.specs.Stopped.{is_idle}
 use Rattle.machine.proofs.Laws.Bytes.{lt_or_ge}
 use Rattle.quiet.proofs.Seen.{reached}
-use Rattle.quiet.proofs.Rows.{Row, pairs, sight, look, envelope_in, Fits, done_by, asks_by, leaves_by}
+use Rattle.quiet.proofs.Rows.{Row, pairs, sight, envelope_in, Fits, done_by, asks_by, leaves_by}
 use Rattle.quiet.proofs.Rows.Row.{Told, Asking, Asked, Coming, Come, May, Done, Noted, Rest}
 use Rattle.quiet.proofs.Moves.{makes, shows, unasked, unreached, alone}
 use Rattle.quiet.proofs.Moves.{told_others, asking_others, asked_others, holder_others, leaves_others}

@@ -2,11 +2,10 @@
 -- possible is said code by code (machine/proofs/Stopped): a stage of the caller's, the arriving flag, a request on the
 -- link, news; and in a row each of these stands at the due event's place alone.
 use Prim.Native.Nat.{ℕ, zero, suc, ◌≤◌}
-use mathlib.Core.Path.{◌≡◌, refl, sym, ap, ◌∙◌}
+use mathlib.Core.Path.{◌≡◌, refl, ap, ◌∙◌}
 use mathlib.Core.Bool.{Bool, true, false, not, cond, ◌&&◌, ◌||◌, false≢true}
 use native.Mathlib.Omega.{arith}
 use lib.Dec.{eqb}
-use borrow.Author.Tests.{eq-eqb}
 use Rattle.machine.specs.declared.Envelope.{Envelope}
 use Rattle.machine.specs.Fields.{Status, full, empty}
 use Rattle.machine.specs.Stages.{told}

@@ -7,7 +7,7 @@ use lib.Dec.{eqb, leb, ltb}
 use Rattle.machine.specs.declared.Pair.{Pair}
 use Rattle.machine.specs.declared.Envelope.{Envelope}
 use Rattle.machine.specs.declared.Process.{Process}
-use Rattle.machine.specs.Fields.{Status, none, blank, process_of}
+use Rattle.machine.specs.Fields.{Status, none, process_of}
 
 -- ---- what a row shows
 

@@ -1,5 +1,5 @@
 -- Traffic on a quiet ring as makers read it: document 02, A.5, of the calls' own answers.
-use Rattle.std.specs.Prelude.{ℕ, ◌≤◌, ◌<◌, ◌≡◌, List, [], ◌∷◌, ◌++◌, length}
+use Rattle.std.specs.Prelude.{ℕ, ◌≤◌, ◌<◌, ◌≡◌, List, ◌++◌, length}
 use Rattle.machine.specs.declared.Verdict.TheVariants.{Fine}
 use Rattle.machine.specs.Bytes.{Bytes, number}
 use Rattle.machine.specs.Ring.{least, most, image_length}
