@@ -128,7 +128,8 @@ module _ {n : ℕ} {image : List ℕ} {t : Totals} (before : Reached n image t) 
 
     -- its answer's values
     abbrev run_values : List ℕ
-    run_values = count_values (counts_from no_counts (state_in image) vs) ++ traffic_values (traffic_from (state_in image) vs)
+    run_values = count_values (counts_from no_counts (state_in image) vs)
+        ++ traffic_values (traffic_from (state_in image) vs)
 
     -- done, it is the tape's events on the state
     run_done : tape_verdict codes (size_in image) tape ≡ Fine

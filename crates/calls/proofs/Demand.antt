@@ -27,7 +27,8 @@ use Rattle.machine.specs.Answers.{Answer, answer, fresh_verdict, fresh_image, st
 use Rattle.machine.proofs.Laws.Bits.{bit_on}
 use Rattle.machine.proofs.Soundness.Octets.{written_bytes}
 use Rattle.machine.proofs.Laws.Refusals.{fresh_whole}
-use Rattle.machine.proofs.Image.Fresh.{fresh_fits, length_fresh, fresh_accepted, fresh_written, fresh_size, fresh_state_lem}
+use Rattle.machine.proofs.Image.Fresh.{fresh_fits, length_fresh, fresh_accepted, fresh_written, fresh_size}
+use Rattle.machine.proofs.Image.Fresh.{fresh_state_lem}
 use Rattle.machine.proofs.Soundness.Facts.{state_facts}
 use Rattle.machine.proofs.Stopped.{stopped_means}
 use Rattle.machine.proofs.Balance.Start.{fresh_invariant}

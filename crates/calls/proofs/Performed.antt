@@ -19,7 +19,8 @@ use Rattle.machine.specs.Events.{Event, outcome}
 use Rattle.machine.specs.Run.{no_counts, counts_from, count_values, after}
 use Rattle.machine.specs.Tape.{event_in}
 use Rattle.machine.specs.Traffic.{traffic, no_traffic, together, traffic_from, traffic_values}
-use Rattle.machine.specs.Refusals.{number_of, or_else, codes, image_verdict, event_verdict, tape_verdict, output_verdict}
+use Rattle.machine.specs.Refusals.{number_of, or_else, codes, image_verdict, event_verdict, tape_verdict}
+use Rattle.machine.specs.Refusals.{output_verdict}
 use Rattle.machine.specs.Answers.{Answer, answer, lent, outcome_values, step_verdict, step_answer, step_image}
 use Rattle.machine.specs.Answers.{run_events, run_records, run_verdict, run_answer, run_image, stopped_answer}
 use Rattle.machine.proofs.Laws.Refusals.{number_range, first_fine}
@@ -87,7 +88,8 @@ module _ (image : List ℕ) (fine : image_verdict image ≡ Fine) (small : Bytes
       let test = tape_verdict codes (size_in image) tape in
       let room = output_verdict (length (run_records image tape)) ledger in
       rw fine
-      (goes vs (count_values (counts_from no_counts st vs) ++ traffic_values (traffic_from st vs)) run_traffic (λ r. refl)
+      (goes vs (count_values (counts_from no_counts st vs) ++ traffic_values (traffic_from st vs)) run_traffic
+      (λ r. refl)
       (or_else test room)
       (λ accepted. events_continue vs image fine small
       (events_fit codes (size_in image) tape (first_fine test room accepted) bytes))

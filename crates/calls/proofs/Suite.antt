@@ -47,7 +47,8 @@ use Rattle.result_slice.proofs.Told.{lent_as_left, done_told, refused_told, lent
 use Rattle.calls.specs.Calls.{Call, nothing, value, step_shows, run_shows, plus}
 use Rattle.calls.specs.Calls.Call.{Step, Run, Stopped}
 use Rattle.calls.specs.Demand.{SaysStopped, given, GivenBytes}
-use Rattle.calls.specs.Suite.{HostCall, host_image, host_image_all, answer_read, host_answer, host_shown, host_shown_all}
+use Rattle.calls.specs.Suite.{HostCall, host_image, host_image_all, answer_read, host_answer, host_shown}
+use Rattle.calls.specs.Suite.{host_shown_all}
 use Rattle.calls.specs.Suite.{word_told, TellsStopped, SuiteDemand}
 use Rattle.calls.proofs.Shown.{plus_nothing, nothing_plus, plus_assoc, step_refused, run_refused}
 use Rattle.calls.proofs.Calls.{Reached, unchanged, call_kept}

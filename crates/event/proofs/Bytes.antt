@@ -28,7 +28,8 @@ module _ (s : List ℕ) (at : ℕ) {process message : ℕ} (first : process ≡ 
       let third : at + 2 + 1 ≡ at + 3 = omega arith in
       rw (first, last, zeros_2 s (at + 2), third, zeros_number s (at + 4) 4)
 
-  pub event_read : record { process = process; code = get_or s (at + 1) 0; message = message } ≡ event_of (event_in s at)
+  pub event_read : record { process = process; code = get_or s (at + 1) 0; message = message }
+      ≡ event_of (event_in s at)
   unfolding event_in
   event_read = rw (first, last)
 

@@ -16,8 +16,10 @@ use Rattle.machine.specs.Lists.{tabulate}
 use Rattle.machine.specs.Events.{Event}
 use Rattle.machine.specs.Tape.{event_in, events_in, event_bytes, list_bytes, slot_at, list_of}
 use Rattle.machine.specs.Refusals.{codes, size_verdict, seed_verdict, event_fits, list_verdict, tape_verdict}
-use Rattle.machine.specs.Answers.{answer, run_events, write_verdict, write_answer, write_output, read_answer, read_output}
-use Rattle.machine.specs.Load.{drawn, event_by, load_event, load_events, load_tape, load_verdict, load_answer, load_output}
+use Rattle.machine.specs.Answers.{answer, run_events, write_verdict, write_answer, write_output, read_answer}
+use Rattle.machine.specs.Answers.{read_output}
+use Rattle.machine.specs.Load.{drawn, event_by, load_event, load_events, load_tape, load_verdict, load_answer}
+use Rattle.machine.specs.Load.{load_output}
 use Rattle.machine.proofs.Laws.Lists.{tabulate_same}
 use Rattle.machine.proofs.Laws.Refusals.{first_fine, second_fine}
 use Rattle.machine.proofs.Loads.{message_within, length_load, part_list_bytes, load_begins}

@@ -89,7 +89,8 @@ module _ (n seed count : ℕ) (output : List ℕ) where
     pub load_short : length output < 512 * blocks → Loaded n seed count output (Refused refusal.Output) [] output
     unfolding load_answer load_output
     load_short =
-        room_refused (given n seed count) (load_verdict n seed count output) (load_tape n seed count) output in_turn fine
+        room_refused (given n seed count) (load_verdict n seed count output) (load_tape n seed count) output in_turn
+        fine
         long
 
     pub load_done : {t : List ℕ} → 512 * blocks ≤ length output
@@ -97,5 +98,6 @@ module _ (n seed count : ℕ) (output : List ℕ) where
         → Loaded n seed count output Fine (512 * blocks ∷ []) t
     unfolding load_answer load_output
     load_done room wrote =
-        output_filled (given n seed count) (load_verdict n seed count output) (load_tape n seed count) output in_turn fine
+        output_filled (given n seed count) (load_verdict n seed count output) (load_tape n seed count) output in_turn
+        fine
         long room (wrote ∙ ap (splice output 0) blocks_are)

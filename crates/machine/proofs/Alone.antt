@@ -154,7 +154,8 @@ module _ (st : State) (c : Counts) (fills takes : List ℕ) (inv : Invariant st 
   module _ (ws : List Event) (within_ring : on_ring (length st.processes) ws ≡ true) where
     -- the invariant after the events
     kept :
-        Invariant (after st ws) (totals_of (counts_from c st ws) (fills ++ filled_from st ws) (takes ++ taken_from st ws))
+        Invariant (after st ws) (totals_of (counts_from c st ws) (fills ++ filled_from st ws)
+        (takes ++ taken_from st ws))
     kept = events_kept ws st c fills takes inv within_ring
 
     -- where it is stopped, something was taken
@@ -201,7 +202,8 @@ pub not_stopped_without_take : Thereafter PutEnded (λ st ws. taken_from st ws �
 not_stopped_without_take n home two few below vs within_ring put_ended ws then_on_ring none =
     let end = after (after (fresh_state n home) vs) ws in
     refuted (stopped end)
-    (λ yes. no_stop_without_take n home two few below vs within_ring put_ended ws then_on_ring none (stopped_means end yes))
+    (λ yes. no_stop_without_take n home two few below vs within_ring put_ended ws then_on_ring none
+    (stopped_means end yes))
 
 -- ---- no stop without a get
 

@@ -42,13 +42,15 @@ unfolding report_text report_verdict
 too_long input h =
     let long = few_refused (tape_given input) (rw (length-drop 2 input) (omega arith)) in
     rw long
-    (refused_anyway (size_verdict (size_given input)) (home_verdict (size_given input) (home_given input)) refusal.Length _
+    (refused_anyway (size_verdict (size_given input)) (home_verdict (size_given input) (home_given input))
+    refusal.Length _
     [])
 
 pub read_enough : (input : List ℕ) → report_text (take most_read input) ≡ report_text input
 read_enough input = go (lt_or_ge most_read (length input))
   where
-    go : (most_read < length input) ⊎ (length input ≤ most_read) → report_text (take most_read input) ≡ report_text input
+    go : (most_read < length input) ⊎ (length input ≤ most_read) → report_text (take most_read input)
+        ≡ report_text input
     go (inl more) =
         let long = length-take-le most_read input (omega arith) in
         let n = get_or-take most_read input 0 0 (lit< tt) in

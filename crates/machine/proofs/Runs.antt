@@ -70,7 +70,8 @@ module _ (s : List ℕ) (v : Event) (fine : image_verdict s ≡ Fine) (small : B
 
   -- the events that are left, from the image after this one, leave what they leave with it before them
   pub events_left : (vs : List Event)
-      → image_with (image_after s v) (after (state_in (image_after s v)) vs) ≡ image_with s (after (state_in s) (v ∷ vs))
+      → image_with (image_after s v) (after (state_in (image_after s v)) vs)
+      ≡ image_with s (after (state_in s) (v ∷ vs))
   unfolding after
   events_left vs =
       let next = apply (state_in s) v in

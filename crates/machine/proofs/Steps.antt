@@ -67,22 +67,23 @@ either_true false = refl
 
 -- at a process of an accepted image, with one of the eight codes, it is accepted, and the step does and answers what
 -- the rule does
-module _ (s : List ℕ) (fine : image_verdict s ≡ Fine) (i code : ℕ) (within_ring : i < size_in s) (known : code < codes) where
-  abbrev plain : List ℕ
-  plain = i ∷ code ∷ 0 ∷ 0 ∷ 0 ∷ 0 ∷ 0 ∷ 0 ∷ []
+module _ (s : List ℕ) (fine : image_verdict s ≡ Fine) (i code : ℕ) (within_ring : i < size_in s) (known : code < codes)
+  where
+    abbrev plain : List ℕ
+    plain = i ∷ code ∷ 0 ∷ 0 ∷ 0 ∷ 0 ∷ 0 ∷ 0 ∷ []
 
-  abbrev v : Event
-  v = record { process = i; code = code; message = 0 }
+    abbrev v : Event
+    v = record { process = i; code = code; message = 0 }
 
-  taken : step_verdict s plain ≡ Fine
-  unfolding step_verdict event_verdict event_fits zeros all_zero
-  taken = rw (fine, lt-ltb i (size_in s) within_ring, lt-ltb code codes known, either_true (eqb code 0))
+    taken : step_verdict s plain ≡ Fine
+    unfolding step_verdict event_verdict event_fits zeros all_zero
+    taken = rw (fine, lt-ltb i (size_in s) within_ring, lt-ltb code codes known, either_true (eqb code 0))
 
-  pub step_answers : step_answer s plain
-      ≡ answer Fine (outcome_values (outcome (state_in s) v) ++ traffic_values (traffic (state_in s) v))
-  unfolding step_answer event_in number little_endian_of
-  step_answers = rw taken
+    pub step_answers : step_answer s plain
+        ≡ answer Fine (outcome_values (outcome (state_in s) v) ++ traffic_values (traffic (state_in s) v))
+    unfolding step_answer event_in number little_endian_of
+    step_answers = rw taken
 
-  pub step_leaves : step_image s plain ≡ image_with s (apply (state_in s) v)
-  unfolding step_image event_in number little_endian_of
-  step_leaves = rw taken
+    pub step_leaves : step_image s plain ≡ image_with s (apply (state_in s) v)
+    unfolding step_image event_in number little_endian_of
+    step_leaves = rw taken

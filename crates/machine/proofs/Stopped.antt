@@ -38,7 +38,8 @@ idle_at code e p = idles (react code 0 e p)
 
 quiet_six : (e : Envelope) (p : Process)
     → quiet e p
-    ≡ idle_at 2 e p && (idle_at 3 e p && (idle_at 4 e p && (idle_at 5 e p && (idle_at 6 e p && (idle_at 7 e p && true)))))
+    ≡ idle_at 2 e p && (idle_at 3 e p && (idle_at 4 e p &&
+    (idle_at 5 e p && (idle_at 6 e p && (idle_at 7 e p && true)))))
 unfolding quiet all
 quiet_six e p = refl
 

@@ -1,6 +1,7 @@
 -- The eight events: document 01, "The eight events", in its order. An event at a process reads the envelope and that
 -- process's record alone; what it does is a reaction, which is then placed on the ring.
-use Rattle.std.specs.Prelude.{ℕ, zero, suc, pred, ◌+◌, Bool, true, false, not, cond, ◌||◌, List, length, get_or, set, eqb}
+use Rattle.std.specs.Prelude.{ℕ, zero, suc, pred, ◌+◌, Bool, true, false, not, cond, ◌||◌, List, length, get_or, set}
+use Rattle.std.specs.Prelude.{eqb}
 use Rattle.std.specs.Bool.{beq}
 use Rattle.machine.specs.declared.Pair.{Pair}
 use Rattle.machine.specs.declared.Envelope.{Envelope}

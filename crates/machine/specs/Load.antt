@@ -56,4 +56,5 @@ unfoldable pub load_answer : ℕ → ℕ → ℕ → List ℕ → Answer
 load_answer n seed count output = answer (load_verdict n seed count output) (length (load_tape n seed count) ∷ [])
 
 unfoldable pub load_output : ℕ → ℕ → ℕ → List ℕ → List ℕ
-load_output n seed count output = lent (load_verdict n seed count output) output (splice output 0 (load_tape n seed count))
+load_output n seed count output = lent (load_verdict n seed count output) output
+    (splice output 0 (load_tape n seed count))

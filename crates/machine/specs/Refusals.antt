@@ -1,7 +1,8 @@
 -- Where a call is turned down: document 01's table, and what document 02 adds to it; each row's condition exactly, its
 -- place, and the order of the tests of one input. The order between a call's inputs stands with the calls, in Answers
 -- and Load.
-use Rattle.std.specs.Prelude.{ℕ, zero, suc, ◌+◌, ◌-◌, ◌*◌, ◌/◌, ◌%◌, Bool, true, false, ◌&&◌, ◌||◌, List, length, get_or, eqb, leb, ltb}
+use Rattle.std.specs.Prelude.{ℕ, zero, suc, ◌+◌, ◌-◌, ◌*◌, ◌/◌, ◌%◌, Bool, true, false, ◌&&◌, ◌||◌, List, length}
+use Rattle.std.specs.Prelude.{get_or, eqb, leb, ltb}
 use Rattle.machine.specs.declared.Refusal.{Refusal}
 use Rattle.machine.specs.declared.Refusal.TheVariants as refusal
 use Rattle.machine.specs.declared.Verdict.{Verdict}

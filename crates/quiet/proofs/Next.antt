@@ -32,7 +32,8 @@ pub record Leads (n : ℕ) (w : Status) (o : Bool) (d m : ℕ) (row next : Row) 
       → react (sight w o d m row).code message (envelope_in w o d m row) (shows o d m w row (sight w o d m row).place)
       ≡ makes w (shows o d m w next (sight w o d m row).place) (envelope_in w o d m next) asks leaves outcome
   pub others : (k : ℕ) → k ≢ (sight w o d m row).place
-      → reached (sight w o d m row).place (makes w (shows o d m w row k) (envelope_in w o d m next) asks leaves outcome) k
+      → reached (sight w o d m row).place
+      (makes w (shows o d m w row k) (envelope_in w o d m next) asks leaves outcome) k
       (shows o d m w row k)
       ≡ shows o d m w next k
   pub busy : is_idle outcome ≡ false
@@ -111,7 +112,8 @@ module _ (n : ℕ) (w : Status) (o : Bool) (d m : ℕ) (wide : d < n) where
             own = own;
             others = λ k apart.
                 unreached (eqb (k + 1) (sight w o d m row).place)
-                (requested (cond (eqb k ((sight w o d m row).place + 1)) (pairs w true false) none) (shows o d m w row k))
+                (requested (cond (eqb k ((sight w o d m row).place + 1)) (pairs w true false) none)
+                (shows o d m w row k))
                 ∙ others k apart;
             busy = busy;
             inner = inl inner;
@@ -161,7 +163,8 @@ module _ (n : ℕ) (w : Status) (o : Bool) (d m : ℕ) (wide : d < n) where
 held : (n : ℕ) (w : Status) (o : Bool) (d m : ℕ) → d < n → (w ≡ true → 1 ≤ d) → Goes n w o d m (Asked d)
 held n true o zero m wide far = absurd (omega (arith, far refl))
 held n false o zero m wide far =
-    alone_leads n false o 0 m wide (Asked 0) May Moved (at_once_own o m) (at_once_others o m) refl wide (omega arith) refl
+    alone_leads n false o 0 m wide (Asked 0) May Moved (at_once_own o m) (at_once_others o m) refl wide (omega arith)
+    refl
     refl refl
 held n w o (suc d) m wide far =
     let some : 1 ≤ suc d = omega arith in
@@ -215,7 +218,8 @@ module _ (n : ℕ) (w : Status) (o : Bool) (d m : ℕ) (wide : d < n) (far : w �
   goes (Come j) inner more = come_goes j inner
   goes May fits more =
       alone_leads n w o d m wide May Done (cond w (Take m) (Fill m)) (λ message. may_own o d m message w)
-      (may_others o d m w) (either_busy w (Take m) (Fill m) refl refl) (omega arith) (omega arith) (omega arith) refl refl
+      (may_others o d m w) (either_busy w (Take m) (Fill m) refl refl) (omega arith) (omega arith) (omega arith) refl
+      refl
   goes Done fits more =
       alone_leads n w o d m wide Done Noted Moved
       (λ message. done_own o d m message (envelope_in w o d m Done) w) (done_others o d m w) refl (omega arith)

@@ -1,5 +1,6 @@
--- On a quiet ring there is one order of events: from a start on just one event is possible at any time, or none, and how
--- many there are depends on the distance alone. Beyond document 02, A.5, and why its numbers are the same for all lists.
+-- On a quiet ring there is one order of events: from a start on just one event is possible at any time, or none, and
+-- how many there are depends on the distance alone. Beyond document 02, A.5, and why its numbers are the same for all
+-- lists.
 use Rattle.std.specs.Prelude.{ℕ, ◌+◌, ◌*◌, ◌≤◌, ◌<◌, ◌≡◌, true, not, List, [], ◌∷◌, length}
 use Rattle.machine.specs.declared.Outcome.TheVariants.{Idle}
 use Rattle.machine.specs.Bytes.{bit}

@@ -12,7 +12,8 @@ use Rattle.machine.specs.Balance.{on_ring}
 
 -- ---- what starts
 
--- the processes at which events of a code weren't idle, in order: with code 0 where puts start, with code 1 where gets do
+-- the processes at which events of a code weren't idle, in order: with code 0 where puts start, with code 1 where gets
+-- do
 unfoldable pub starts_from : ℕ → State → List Event → List ℕ
 starts_from code st [] = []
 starts_from code st (v ∷ vs) =

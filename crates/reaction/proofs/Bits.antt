@@ -65,7 +65,8 @@ gone_along stage flags requests note byte byte_2 =
     let have = alike 256 (λ k. bit_of (bit_and k 254) 0) (λ _. false) refl flags byte in
     let arriving = alike 256 (λ k. bit_of (bit_and k 254) 1) (λ k. bit_of k 1) refl flags byte in
     let news = alike 256 (λ k. bit_of (bit_and k 254) 2) (λ k. bit_of k 2) refl flags byte in
-    by_test (λ k. bit_and k 240) (λ _. none) (λ _. none) (at 4) (at 6) refl requests byte_2 stage (bit_and flags 254) note
+    by_test (λ k. bit_and k 240) (λ _. none) (λ _. none) (at 4) (at 6) refl requests byte_2 stage (bit_and flags 254)
+    note
     ∙ rw (have, arriving, news)
 
 -- ---- a mark set, and off
@@ -103,7 +104,8 @@ pub missing : (s : Status) (r : ℕ) → r < 256
     → bit_and (pair_for s) (3 - r / 16 % 4) ≡ cond (for (pair_of r 4) s) 0 (pair_for s)
 unfolding every
 missing =
-    by_number (λ s k. bit_and (pair_for s) (3 - k / 16 % 4)) (λ s k. cond (for (pair_of k 4) s) 0 (pair_for s)) refl refl
+    by_number (λ s k. bit_and (pair_for s) (3 - k / 16 % 4)) (λ s k. cond (for (pair_of k 4) s) 0 (pair_for s)) refl
+    refl
 
 pub standing : (s : Status) (r : ℕ) → r < 256
     → bit_and (r / 16 % 4) (pair_for s) ≡ cond (for (pair_of r 4) s) (pair_for s) 0

@@ -15,7 +15,8 @@ use Rattle.machine.specs.Image.{pair_of, process_from}
 use Rattle.machine.specs.Events as rule
 use Rattle.record.specs.declared.process.Record.{Record}
 use Rattle.record.specs.declared.header.Header.{Header}
-use Rattle.record.specs.Words.{stage_of, flags_of, requests_of, spare_of, note_of, marks_of, full_of, shown_envelope, counted_as}
+use Rattle.record.specs.Words.{stage_of, flags_of, requests_of, spare_of, note_of, marks_of, full_of, shown_envelope}
+use Rattle.record.specs.Words.{counted_as}
 use Rattle.record.proofs.Fields.{Fields, shows, is_tidy, fields_of, set_in_2, off_in_2, marks_in}
 use Rattle.record.proofs.Headers.{envelope_from, shows_envelope, is_tidy_header, counts_up, counts_down, counts_there}
 use Rattle.record.proofs.Headers.{full_is}

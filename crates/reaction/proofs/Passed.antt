@@ -127,7 +127,8 @@ module _ (r : Reaction) (begun : Begun r) (wish : ℕ) (few : wish < 3) where
               outcome = r.outcome;
             })
             ∙ sym (rule_passes r.outcome (shown_envelope r.header) (stage_of w) (note_of w) (bit_of (flags_of w) 0)
-            (bit_of (flags_of w) 1) (bit_of (flags_of w) 2) (pair_of q 4) (pair_of q 6) wish few (pair_of q 0) (pair_of q 2))
+            (bit_of (flags_of w) 1) (bit_of (flags_of w) 2) (pair_of q 4) (pair_of q 6) wish few (pair_of q 0)
+            (pair_of q 2))
             ∙ ap (λ x. rule.pass (asking wish x)) (sym (begun_shows r begun));
         fits = record { own = tidy; header = fits.header; asks = few_asks };
         size = refl;

@@ -94,7 +94,8 @@ module _ (op : ℕ → ℕ → ℕ) (op_shr : (a b k : ℕ) → op a b / 2 ^ k �
       }
 
 pub with_bits : (w : ℕ) {m a b c d e : ℕ} → Fields m a b c d e
-    → Fields (bit_or w m) (bit_or (stage_of w) a) (bit_or (flags_of w) b) (bit_or (requests_of w) c) (bit_or (spare_of w) d)
+    → Fields (bit_or w m) (bit_or (stage_of w) a) (bit_or (flags_of w) b) (bit_or (requests_of w) c)
+    (bit_or (spare_of w) d)
     (bit_or (note_of w) e)
 with_bits = by_field bit_or or_shr or_mod
 
@@ -109,7 +110,8 @@ all_ones k x small = and_mask x k ∙ mod-eq_of_lt small
 
 -- flags, requests and marks set
 pub set_in : (w x y : ℕ) → x < 256 → y < 256
-    → Fields (bit_or w (x * 256 + y * 65536)) (stage_of w) (bit_or (flags_of w) x) (bit_or (requests_of w) y) (spare_of w)
+    → Fields (bit_or w (x * 256 + y * 65536)) (stage_of w) (bit_or (flags_of w) x) (bit_or (requests_of w) y)
+    (spare_of w)
     (note_of w)
 set_in w x y one two =
     let is : x * 256 + y * 65536 ≡ word_of 0 x y 0 0 = omega arith in
@@ -120,7 +122,8 @@ set_in w x y one two =
 -- flags, requests, marks and bits of the note off
 pub off_in : (w x y z : ℕ) → x < 256 → y < 256 → z < 2 ^ 32
     → Fields (bit_and w (18446744073709551615 - (x * 256 + y * 65536 + z * 4294967296))) (stage_of w)
-    (bit_and (flags_of w) (255 - x)) (bit_and (requests_of w) (255 - y)) (spare_of w) (bit_and (note_of w) (4294967295 - z))
+    (bit_and (flags_of w) (255 - x)) (bit_and (requests_of w) (255 - y)) (spare_of w)
+    (bit_and (note_of w) (4294967295 - z))
 off_in w x y z one two three =
     let is : 18446744073709551615 - (x * 256 + y * 65536 + z * 4294967296)
     ≡ word_of 255 (255 - x) (255 - y) 255 (4294967295 - z) = omega arith in
@@ -161,5 +164,6 @@ at_stage w stage byte =
 
 pub without_note : (w : ℕ) → Fields (w % 4294967296) (stage_of w) (flags_of w) (requests_of w) (spare_of w) 0
 without_note w =
-    let is : w % 4294967296 ≡ word_of (stage_of w) (flags_of w) (requests_of w) (spare_of w) 0 = omega (arith, joined w) in
+    let is : w % 4294967296 ≡ word_of (stage_of w) (flags_of w) (requests_of w) (spare_of w) 0 = omega
+    (arith, joined w) in
     rw is (made_of (stage_of w) _ _ _ 0 (omega arith) (omega arith) (omega arith) (omega arith))

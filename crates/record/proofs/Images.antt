@@ -105,7 +105,8 @@ module _ (s : List ℕ) (fine : image_verdict s ≡ Fine) (small : Bytes s) wher
       let word : number s 0 8 ≡ word_of (get_or s 0 0) (get_or s 1 0) (get_or s 2 0) (get_or s 3 0) (get_or s 4 0) =
       rw (number_8 s 0, number_4 s 0, number_more s 4 3, none) (omega arith) in
       rw word
-      (made_of (get_or s 0 0) (get_or s 1 0) (get_or s 2 0) (get_or s 3 0) (get_or s 4 0) (small 0) (small 1) (small 2) (small 3))
+      (made_of (get_or s 0 0) (get_or s 1 0) (get_or s 2 0) (get_or s 3 0) (get_or s 4 0) (small 0) (small 1) (small 2)
+      (small 3))
 
   -- the message alone is in the second word
   message_is : number s 8 8 ≡ number s 8 4
@@ -164,4 +165,5 @@ header_bytes_lem h tidy =
 pub header_written : (s : List ℕ) (h : Header) → TidyHeader h → h.word % 256 ≡ size_in s
     → splice s 0 (bytes 8 h.word ++ bytes 8 h.message) ≡ with_envelope s (shown_envelope h)
 unfolding with_envelope
-header_written s h tidy size = ap (splice s 0) (header_bytes_lem h tidy ∙ ap (λ n. header_bytes n (shown_envelope h)) size)
+header_written s h tidy size = ap (splice s 0)
+    (header_bytes_lem h tidy ∙ ap (λ n. header_bytes n (shown_envelope h)) size)

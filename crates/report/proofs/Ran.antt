@@ -51,7 +51,8 @@ module _ (records ledger : List ℕ) where
   unfolding splice number
   number_at_start at h = ap little_endian_of (part_front records (drop (0 + length records) ledger) at 4 h)
 
-  line_at_start : (k : ℕ) → 12 * k + 12 ≤ length records → record_line (splice ledger 0 records) k ≡ record_line records k
+  line_at_start : (k : ℕ) → 12 * k + 12 ≤ length records → record_line (splice ledger 0 records) k
+      ≡ record_line records k
   unfolding record_line
   line_at_start k h =
       rw (

@@ -138,7 +138,8 @@ module _ (input buffer : List ℕ) (long : 528 ≤ length buffer) {n home : ℕ}
 
       -- what the run does from there is the whole text
       pub run_whole : length input ≤ 32770 → {tape : List ℕ} → tape ≡ tape_given input
-          → text_by (tape_verdict codes (size_in image) tape) (ran_text (state_in image) (run_events tape)) ≡ report_text input
+          → text_by (tape_verdict codes (size_in image) tape) (ran_text (state_in image) (run_events tape))
+          ≡ report_text input
       unfolding report_text report_verdict few_verdict
       run_whole few is_tape =
           let short : length (tape_given input) ≤ 32768 = rw (length-drop 2 input) (omega arith) in

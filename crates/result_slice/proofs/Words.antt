@@ -23,7 +23,8 @@ words_append : (vs ws : List ℕ) → words_of (vs ++ ws) ≡ words_of vs ++ wor
 unfolding words_of
 words_append [] ws = refl
 words_append (v ∷ vs) ws =
-    ap (λ (l : List ℕ). bytes 8 v ++ l) (words_append vs ws) ∙ sym (append_assoc (bytes 8 v) (words_of vs) (words_of ws))
+    ap (λ (l : List ℕ). bytes 8 v ++ l) (words_append vs ws)
+    ∙ sym (append_assoc (bytes 8 v) (words_of vs) (words_of ws))
 
 -- words of 0 are zeros
 words_of_zero : (k : ℕ) → words_of (replicate k 0) ≡ replicate (8 * k) 0

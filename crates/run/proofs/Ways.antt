@@ -84,7 +84,8 @@ module _ (s tape ledger : List ℕ) where
       run_done enough came_to wrote entered =
           let fits = leb-true _ _ (sym measured ∙ enough) in
           let is =
-          all_fine (image_verdict s) (tape_verdict codes (size_in s) tape) (length (run_records s tape)) ledger fine fits in
+          all_fine (image_verdict s) (tape_verdict codes (size_in s) tape) (length (run_records s tape)) ledger fine
+          fits in
           let every = all_events tape all in
           let records = all_records tape all s in (
             rw (came_to.counts, came_to.traffic, every, is),

@@ -226,7 +226,8 @@ module _ (stage flags requests third note : ℕ) (s_lt : stage < 256) (f_lt : fl
           let mask : demand_of (entry_of (bit status) word) ≡ mask_of status stage = demand_is ∙ rw (itself, there) in
           rw (mask, turned)
           (and_parts (stage_mask status stage) (flag_mask stage) (mark_mask stage) 255 (note_mask stage)
-          (bit_xor stage 7) (bit_xor flags 1) requests third note (omega arith) (omega arith) (omega arith) (omega arith)
+          (bit_xor stage 7) (bit_xor flags 1) requests third note (omega arith) (omega arith) (omega arith)
+          (omega arith)
           turned_stage turned_flags r_lt t_lt
           ∙ rw (mask_byte third t_lt, mask_note (noted stage) note n_lt))
 

@@ -13,13 +13,15 @@ use Rattle.machine.specs.Stages.{last_stage}
 use Rattle.machine.proofs.Laws.Lists.{alike, agree}
 use Rattle.sound.specs.Demands.{against, stage_mask, beyond_mask}
 
-pub two_parts : (r s a b : ℕ) → r < 256 → s < 256 → bit_and (r + 256 * a) (s + 256 * b) ≡ bit_and r s + 256 * bit_and a b
+pub two_parts : (r s a b : ℕ) → r < 256 → s < 256 → bit_and (r + 256 * a) (s + 256 * b)
+    ≡ bit_and r s + 256 * bit_and a b
 two_parts r s a b small little =
     let one : r + 256 * a ≡ a * 2 ^ 8 + r = omega arith in
     let two : s + 256 * b ≡ b * 2 ^ 8 + s = omega arith in
     rw (one, two, and_block 8 a b r s small little) (omega arith)
 
-pub two_turned : (r s a b : ℕ) → r < 256 → s < 256 → bit_xor (r + 256 * a) (s + 256 * b) ≡ bit_xor r s + 256 * bit_xor a b
+pub two_turned : (r s a b : ℕ) → r < 256 → s < 256 → bit_xor (r + 256 * a) (s + 256 * b)
+    ≡ bit_xor r s + 256 * bit_xor a b
 two_turned r s a b small little =
     let one : r + 256 * a ≡ a * 2 ^ 8 + r = omega arith in
     let two : s + 256 * b ≡ b * 2 ^ 8 + s = omega arith in
@@ -36,9 +38,11 @@ pub stage_in_range : (status : Status) (stage : ℕ) → stage < 256
     → eqb (bit_and (bit_and (byte_mask status (stage % 16)) (bit_xor stage 7)) 248) 0 ≡ leb stage 10
 unfolding every
 stage_in_range true stage small =
-    alike 256 (λ k. eqb (bit_and (bit_and (byte_mask true (k % 16)) (bit_xor k 7)) 248) 0) (λ k. leb k 10) refl stage small
+    alike 256 (λ k. eqb (bit_and (bit_and (byte_mask true (k % 16)) (bit_xor k 7)) 248) 0) (λ k. leb k 10) refl stage
+    small
 stage_in_range false stage small =
-    alike 256 (λ k. eqb (bit_and (bit_and (byte_mask false (k % 16)) (bit_xor k 7)) 248) 0) (λ k. leb k 10) refl stage small
+    alike 256 (λ k. eqb (bit_and (bit_and (byte_mask false (k % 16)) (bit_xor k 7)) 248) 0) (λ k. leb k 10) refl stage
+    small
 
 -- and leaves one of the others just where it may not stand
 pub stage_stands : (status : Status) (stage : ℕ) → stage ≤ 10
@@ -48,7 +52,8 @@ stage_stands true stage small =
     alike 11 (λ k. eqb (bit_and (bit_and (stage_mask true k) (bit_xor k 7)) 7) 0) (λ k. not (against true k)) refl stage
     (omega arith)
 stage_stands false stage small =
-    alike 11 (λ k. eqb (bit_and (bit_and (stage_mask false k) (bit_xor k 7)) 7) 0) (λ k. not (against false k)) refl stage
+    alike 11 (λ k. eqb (bit_and (bit_and (stage_mask false k) (bit_xor k 7)) 7) 0) (λ k. not (against false k)) refl
+    stage
     (omega arith)
 
 -- ---- byte 1
@@ -104,7 +109,8 @@ marks_fit false true requests small =
     alike 256 (λ k. eqb (bit_and 16 k) 0) (λ k. (not (bit_of k 4) || false) && (not (bit_of k 5) || true)) refl requests
     small
 marks_fit false false requests small =
-    alike 256 (λ k. eqb (bit_and 48 k) 0) (λ k. (not (bit_of k 4) || false) && (not (bit_of k 5) || false)) refl requests
+    alike 256 (λ k. eqb (bit_and 48 k) 0) (λ k. (not (bit_of k 4) || false) && (not (bit_of k 5) || false)) refl
+    requests
     small
 
 -- ---- byte 3 and the note

@@ -101,7 +101,8 @@ module _ (s : List ℕ) (small : Bytes s) (i : ℕ) where
   p = process_in s i
 
   pub word_is : word
-      ≡ from_parts (get_or s at 0) (get_or s (at + 1) 0) (get_or s (at + 2) 0) (get_or s (at + 3) 0) (number s (at + 4) 4)
+      ≡ from_parts (get_or s at 0) (get_or s (at + 1) 0) (get_or s (at + 2) 0) (get_or s (at + 3) 0)
+      (number s (at + 4) 4)
   word_is = rw (number_8 s at, number_4 s at) (omega arith)
 
   full_is : with_full word ≡ 256 * bit p.have + 1048576 * bit (for p.mark full)

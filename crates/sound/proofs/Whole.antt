@@ -58,7 +58,8 @@ module _ (s : List ℕ) (small : Bytes s) where
   masked =
       let rest = get_or s 3 0 + 256 * (get_or s 4 0 + 256 * number s 5 3) in
       ap (λ x. bit_and x (0 + 256 * (254 + 256 * (252 + 256 * 0)))) first_is
-      ∙ two_parts (get_or s 0 0) 0 (get_or s 1 0 + 256 * (get_or s 2 0 + 256 * rest)) (254 + 256 * (252 + 256 * 0)) (small 0)
+      ∙ two_parts (get_or s 0 0) 0 (get_or s 1 0 + 256 * (get_or s 2 0 + 256 * rest)) (254 + 256 * (252 + 256 * 0))
+      (small 0)
       (omega arith)
       ∙ rw (
         two_parts (get_or s 1 0) 254 (get_or s 2 0 + 256 * rest) (252 + 256 * 0) (small 1) (omega arith),

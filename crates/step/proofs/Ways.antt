@@ -17,7 +17,8 @@ use Rattle.machine.specs.Lists.{tabulate}
 use Rattle.machine.specs.Bytes.{Bytes, bit, number, bytes, splice}
 use Rattle.machine.specs.Events.{outcome}
 use Rattle.machine.specs.Tape.{event_in}
-use Rattle.machine.specs.Run.{outcome_number, outcome_message, ledger_record, ledger_entry, ledger_from, counts_from, after}
+use Rattle.machine.specs.Run.{outcome_number, outcome_message, ledger_record, ledger_entry, ledger_from, counts_from}
+use Rattle.machine.specs.Run.{after}
 use Rattle.machine.specs.Run.{recorded, no_counts, counted}
 use Rattle.machine.specs.Traffic.{traffic, traffic_values}
 use Rattle.machine.specs.Refusals.{codes, image_verdict, event_verdict}

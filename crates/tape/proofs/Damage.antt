@@ -112,7 +112,8 @@ check_byte s b p v small room low high new other same =
     let before = bytes_number s at 4 (omega arith) small in
     let after = bytes_number t at 4 (omega (arith, length-set s k v)) (bytes_stored s k v small new) in
     let parts : part t at 4 ≡ part s at 4 = sym after ∙ ap (bytes 4) same ∙ before in
-    other (sym (get_or-set_same s k v 0 (omega arith)) ∙ same_byte t s at at 4 parts k k (omega arith) (omega arith) refl)
+    other (sym (get_or-set_same s k v 0 (omega arith))
+    ∙ same_byte t s at at 4 parts k k (omega arith) (omega arith) refl)
 
 -- a word of which one byte is kept does not go from 0 to 65,535 or back
 upper_kept : (a c v : ℕ) → a < 256 → v < 256 → Exchanged (a + 256 * c) (v + 256 * c) → ⊥

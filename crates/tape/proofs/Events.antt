@@ -48,7 +48,8 @@ module _ (codes n : ℕ) (s : List ℕ) (accepted : tape_verdict codes n s ≡ F
   events_few = omega (arith, events_in_blocks, tape.most)
 
   -- event k, where it stands on the tape
-  pub event_at : (k : ℕ) → k < events_on s → (d : Event) → get_or (run_events s) k d ≡ event_in s (slot_at (k / 63) (k % 63))
+  pub event_at : (k : ℕ) → k < events_on s → (d : Event) → get_or (run_events s) k d
+      ≡ event_in s (slot_at (k / 63) (k % 63))
   unfolding run_events events_in
   event_at k h d =
       get_d_tabulate (λ j. event_in (list_of s) (8 * j)) 0 (events_on s) k d h

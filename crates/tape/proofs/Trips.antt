@@ -12,7 +12,8 @@ use Rattle.machine.specs.declared.Verdict.TheVariants.{Fine, Refused}
 use Rattle.machine.specs.Bytes.{splice, Bytes}
 use Rattle.machine.specs.Tape.{list_of, tape_of}
 use Rattle.machine.specs.Refusals.{or_else, codes, size_verdict, list_verdict, tape_verdict, output_verdict}
-use Rattle.machine.specs.Answers.{answer, write_verdict, write_answer, write_output, read_verdict, read_answer, read_output}
+use Rattle.machine.specs.Answers.{answer, write_verdict, write_answer, write_output, read_verdict, read_answer}
+use Rattle.machine.specs.Answers.{read_output}
 use Rattle.machine.proofs.Laws.Refusals.{first_fine, second_fine, in_turn, all_fine}
 use Rattle.machine.proofs.Laws.Splices.{part_written}
 use Rattle.tape.proofs.Round.{written_accepted, read_written, read_accepted, written_read}
@@ -41,7 +42,8 @@ module _ (n : ℕ) (list output back : List ℕ) (fine : write_verdict n list ou
   filled_tape = rw fine (part_written output 0 (tape_of list) (omega arith))
 
   pub write_then_read : length list ≤ length back
-      → (read_answer n (take (length (tape_of list)) (write_output n list output)) back ≡ answer Fine (length list ∷ []))
+      → (read_answer n (take (length (tape_of list)) (write_output n list output)) back
+      ≡ answer Fine (length list ∷ []))
       × (read_output n (take (length (tape_of list)) (write_output n list output)) back ≡ splice back 0 list)
   unfolding write_verdict read_verdict read_answer read_output
   write_then_read room =
@@ -60,7 +62,8 @@ module _ (n : ℕ) (tape output back : List ℕ) (small : Bytes tape) (fine : re
   filled_list = rw fine (part_written output 0 (list_of tape) (omega arith))
 
   pub read_then_write : length tape ≤ length back
-      → (write_answer n (take (length (list_of tape)) (read_output n tape output)) back ≡ answer Fine (length tape ∷ []))
+      → (write_answer n (take (length (list_of tape)) (read_output n tape output)) back
+      ≡ answer Fine (length tape ∷ []))
       × (write_output n (take (length (list_of tape)) (read_output n tape output)) back ≡ splice back 0 tape)
   unfolding write_verdict read_verdict write_answer write_output
   read_then_write room =

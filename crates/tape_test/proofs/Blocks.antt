@@ -14,8 +14,10 @@ use Rattle.machine.specs.declared.Verdict.{Verdict}
 use Rattle.machine.specs.declared.Verdict.TheVariants.{Fine}
 use Rattle.machine.specs.Bytes.{zeros}
 use Rattle.machine.specs.Tape.{check, covered, slot_at, block_number, block_count, block_check}
-use Rattle.machine.specs.Refusals.{unless, or_else, first, event_fits, length_verdict, most_blocks, most_events, list_verdict}
-use Rattle.machine.specs.Refusals.{check_verdict, block_fits, number_verdict, used_verdict, unused_verdict, block_verdict}
+use Rattle.machine.specs.Refusals.{unless, or_else, first, event_fits, length_verdict, most_blocks, most_events}
+use Rattle.machine.specs.Refusals.{list_verdict}
+use Rattle.machine.specs.Refusals.{check_verdict, block_fits, number_verdict, used_verdict, unused_verdict}
+use Rattle.machine.specs.Refusals.{block_verdict}
 use Rattle.machine.specs.Refusals.{tape_verdict}
 use Rattle.machine.proofs.Laws.Lists.{and_first, and_second}
 use Rattle.machine.proofs.Laws.Refusals.{unless_fine, first_fine, second_fine}
@@ -120,7 +122,8 @@ module _ (codes n : ℕ) (s : List ℕ) (b : ℕ) where
         numbered = eqb-true (block_number s b) b (and_first numbered least two);
         least = leb-true 1 (block_count s b) (and_second numbered least two);
         most = fits_most s b four;
-        full = full_before (block_count s b) (b + 1) (length s / 512) (and_second (numbered && least && most) full four);
+        full = full_before (block_count s b) (b + 1) (length s / 512)
+            (and_second (numbered && least && most) full four);
         events =
             λ j h.
             unless_fine (event_fits codes n s (slot_at b j)) (refusal.Event (63 * b + j))

@@ -39,32 +39,34 @@ module _ (unit most : ℕ) (s : List ℕ) where
 
 -- ---- a block's head
 
-module _ (s : List ℕ) (b : ℕ) {sum written : ℕ} (one : sum ≡ check (covered s b)) (two : written ≡ block_check s b) where
-  pub head_damaged : (sum ≡ written → ⊥)
-      → verdict.Refused (refusal.Check b) ≡ head_verdict s b
-  unfolding check_verdict
-  head_damaged ne = rw (ne_eqb (check (covered s b)) (block_check s b) (λ e. ne (one ∙ e ∙ sym two)))
+module _ (s : List ℕ) (b : ℕ) {sum written : ℕ} (one : sum ≡ check (covered s b)) (two : written ≡ block_check s b)
+  where
+    pub head_damaged : (sum ≡ written → ⊥)
+        → verdict.Refused (refusal.Check b) ≡ head_verdict s b
+    unfolding check_verdict
+    head_damaged ne = rw (ne_eqb (check (covered s b)) (block_check s b) (λ e. ne (one ∙ e ∙ sym two)))
 
-  module _ {number count : ℕ} (same : sum ≡ written) (three : number ≡ block_number s b) (four : count ≡ block_count s b)
-    where
-      -- the test as code makes it
-      abbrev head_fits : Bool
-      head_fits = eqb number b && leb 1 count && leb count 63 && (eqb count 63 || eqb (b + 1) (length s / 512))
+    module _ {number count : ℕ} (same : sum ≡ written) (three : number ≡ block_number s b)
+        (four : count ≡ block_count s b)
+      where
+        -- the test as code makes it
+        abbrev head_fits : Bool
+        head_fits = eqb number b && leb 1 count && leb count 63 && (eqb count 63 || eqb (b + 1) (length s / 512))
 
-      fits_is : head_fits ≡ block_fits s b
-      unfolding block_fits
-      fits_is = rw (three, four)
+        fits_is : head_fits ≡ block_fits s b
+        unfolding block_fits
+        fits_is = rw (three, four)
 
-      equal : check (covered s b) ≡ block_check s b
-      equal = sym one ∙ same ∙ two
+        equal : check (covered s b) ≡ block_check s b
+        equal = sym one ∙ same ∙ two
 
-      pub head_fits_lem : head_fits ≡ true → verdict.Fine ≡ head_verdict s b
-      unfolding check_verdict number_verdict
-      head_fits_lem e = rw (eq-eqb (check (covered s b)) (block_check s b) equal, ← fits_is, e)
+        pub head_fits_lem : head_fits ≡ true → verdict.Fine ≡ head_verdict s b
+        unfolding check_verdict number_verdict
+        head_fits_lem e = rw (eq-eqb (check (covered s b)) (block_check s b) equal, ← fits_is, e)
 
-      pub head_unfit : head_fits ≡ false → verdict.Refused (refusal.Block b) ≡ head_verdict s b
-      unfolding check_verdict number_verdict
-      head_unfit e = rw (eq-eqb (check (covered s b)) (block_check s b) equal, ← fits_is, e)
+        pub head_unfit : head_fits ≡ false → verdict.Refused (refusal.Block b) ≡ head_verdict s b
+        unfolding check_verdict number_verdict
+        head_unfit e = rw (eq-eqb (check (covered s b)) (block_check s b) equal, ← fits_is, e)
 
 -- ---- a slot or an event, as code tests it
 
@@ -84,7 +86,8 @@ module _ (codes n : ℕ) (s : List ℕ) (b : ℕ) where
   unfolding block_verdict
   by_head = else_else (check_verdict s b) (number_verdict s b) (or_else (used_verdict codes n s b) (unused_verdict s b))
 
-  pub head_refused : {r : Refusal} → head_verdict s b ≡ verdict.Refused r → block_verdict codes n s b ≡ verdict.Refused r
+  pub head_refused : {r : Refusal} → head_verdict s b ≡ verdict.Refused r → block_verdict codes n s b
+      ≡ verdict.Refused r
   head_refused e = by_head ∙ rw e
 
   module _ (fine : head_verdict s b ≡ verdict.Fine) where
@@ -101,14 +104,15 @@ module _ (codes n : ℕ) (s : List ℕ) (b : ℕ) where
     used_refused e = by_slots ∙ rw e
 
     module _ {count : ℕ} {clear : Bool} (counts : count ≡ block_count s b)
-        (used : used_verdict codes n s b ≡ verdict.Fine) (is : clear ≡ zeros s (slot_at b count) (8 * (63 - count))) where
-      pub unused_refused : clear ≡ false → block_verdict codes n s b ≡ verdict.Refused (refusal.Unused b)
-      unfolding unused_verdict
-      unused_refused e = by_slots ∙ rw (used, ← counts, sym is ∙ e)
+        (used : used_verdict codes n s b ≡ verdict.Fine) (is : clear ≡ zeros s (slot_at b count) (8 * (63 - count)))
+      where
+        pub unused_refused : clear ≡ false → block_verdict codes n s b ≡ verdict.Refused (refusal.Unused b)
+        unfolding unused_verdict
+        unused_refused e = by_slots ∙ rw (used, ← counts, sym is ∙ e)
 
-      pub slots_fine : clear ≡ true → block_verdict codes n s b ≡ verdict.Fine
-      unfolding unused_verdict
-      slots_fine e = by_slots ∙ rw (used, ← counts, sym is ∙ e)
+        pub slots_fine : clear ≡ true → block_verdict codes n s b ≡ verdict.Fine
+        unfolding unused_verdict
+        slots_fine e = by_slots ∙ rw (used, ← counts, sym is ∙ e)
 
   -- before the first slot
   pub slots_start : {count : ℕ} → count ≡ block_count s b

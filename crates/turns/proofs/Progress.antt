@@ -135,7 +135,8 @@ module _ {s₀ bytes : List ℕ} {start first end : ℕ} {l₀ : List ℕ} {from
     unfolding counts_from
     counts_more = rw stands.state (counts_joined done (event ∷ []) (state_in s₀) no_counts)
 
-    traffic_more : traffic_from (state_in s₀) (done ++ (event ∷ [])) ≡ together (traffic_from (state_in s₀) done) put_out
+    traffic_more : traffic_from (state_in s₀) (done ++ (event ∷ []))
+        ≡ together (traffic_from (state_in s₀) done) put_out
     traffic_more =
         traffic_joined done (event ∷ []) (state_in s₀)
         ∙ ap (together (traffic_from (state_in s₀) done))

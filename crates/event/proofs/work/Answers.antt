@@ -15,5 +15,6 @@ returns-then-stage-eq4 c =
 pub returns : goal.returns
 returns c =
     works c.args.header c.args.own.word c.requires.0 c.requires.1 false
-    (ne_eqb (stage_of c.args.own.word) 4 (λ is. c.if-stage-eq4.false (c.stage.ensures ∙ is))) refl c.emptied.ensures.0 c.emptied.ensures.1
+    (ne_eqb (stage_of c.args.own.word) 4 (λ is. c.if-stage-eq4.false (c.stage.ensures ∙ is))) refl c.emptied.ensures.0
+    c.emptied.ensures.1
     c.becomes-2.ensures

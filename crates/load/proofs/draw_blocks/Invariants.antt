@@ -12,5 +12,6 @@ use Rattle.load.proofs.draw_blocks.Given as goal
 abbrev pub invariant-loop-b : goal.invariant-loop-b
 invariant-loop-b l =
     (l.b ≤ l.blocks) × (length l.tape ≡ length l.initial.tape) × (l.last ≤ 2147483646)
-    × (l.tape ≡ splice l.initial.tape 0 (join (tabulate (block_for (list_bytes (load_events l.n l.seed l.count))) 0 l.b)))
+    × (l.tape
+    ≡ splice l.initial.tape 0 (join (tabulate (block_for (list_bytes (load_events l.n l.seed l.count))) 0 l.b)))
     × (l.b < l.blocks → l.last ≡ drawn l.seed (3 * (63 * l.b)))

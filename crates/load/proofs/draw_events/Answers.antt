@@ -13,7 +13,8 @@ loop-k-init c =
 pub loop-k-preserved : goal.loop-k-preserved
 loop-k-preserved c =
     let more =
-    events_more c.args.n c.args.seed c.args.tape.now c.args.at c.loop-k.k (omega arith) c.loop-k.invariant.3 c.loop-k.invariant.4
+    events_more c.args.n c.args.seed c.args.tape.now c.args.at c.loop-k.k (omega arith) c.loop-k.invariant.3
+    c.loop-k.invariant.4
     (c.draw_event-last.ensures.0, c.draw_event-last.ensures.1) in
     (omega arith, omega arith, c.draw_event-last.ensures.2, more.0, more.1)
 

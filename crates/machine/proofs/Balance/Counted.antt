@@ -37,7 +37,8 @@ Level stages added over before after = bit (stages after) + bit over ≡ bit (st
 -- an event that takes its process from one stage to another, with outcome o
 pub record StageCounts (code : ℕ) (o : Outcome) (before after : ℕ) : Type 0 where
   pub puts : Level sending (bit (eqb code 0 && not (eqb (outcome_number o) 0))) (eqb (outcome_number o) 4) before after
-  pub gets : Level receiving (bit (eqb code 1 && not (eqb (outcome_number o) 0))) (eqb (outcome_number o) 5) before after
+  pub gets : Level receiving (bit (eqb code 1 && not (eqb (outcome_number o) 0))) (eqb (outcome_number o) 5) before
+      after
   pub fills : Level filled (length (filled_by o)) (eqb (outcome_number o) 4) before after
   pub takes : Level emptied (length (taken_by o)) (eqb (outcome_number o) 5) before after
 

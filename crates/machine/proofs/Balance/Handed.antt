@@ -114,7 +114,8 @@ module _ (code m : ℕ) (e : Envelope) (p : Process) (s : Status) where
 
   react_hands : Hands (react code m e p)
   react_hands =
-      every_code Hands code m e p start_put_lem start_get_lem work_hands signal_hands receive_hands request_hands put_hands kept
+      every_code Hands code m e p start_put_lem start_get_lem work_hands signal_hands receive_hands request_hands
+      put_hands kept
 
   -- ---- what is owed
 

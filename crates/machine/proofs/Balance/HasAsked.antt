@@ -250,5 +250,6 @@ module _ (e : Envelope) (p : Process) (fits : Fits e p) (code m : ℕ) (t : Stat
   -- any event, by its code
   pub react_asked : HasAsked t (react code m e p).process
   react_asked =
-      every_code Asked code m e p start_put_lem start_get_lem work_asked signal_asked receive_asked request_asked put_asked
+      every_code Asked code m e p start_put_lem start_get_lem work_asked signal_asked receive_asked request_asked
+      put_asked
       before

@@ -122,7 +122,8 @@ module _ (st : State) (t : Totals) (inv : Invariant st t) (v : Event)
 -- with the counts and the messages of the events before it
 pub events_kept : (vs : List Event) (st : State) (c : Counts) (filled taken : List ℕ)
     → Invariant st (totals_of c filled taken) → on_ring (length st.processes) vs ≡ true
-    → Invariant (after st vs) (totals_of (counts_from c st vs) (filled ++ filled_from st vs) (taken ++ taken_from st vs))
+    → Invariant (after st vs) (totals_of (counts_from c st vs) (filled ++ filled_from st vs)
+    (taken ++ taken_from st vs))
 unfolding after counts_from filled_from taken_from counted all
 events_kept [] st c filled taken inv _ = rw (append-nil filled, append-nil taken) inv
 events_kept (v ∷ vs) st c filled taken inv within_ring =

@@ -34,7 +34,8 @@ use Rattle.machine.proofs.Balance.Claimed.{Claims}
 -- ---- requests that come to a neighbour
 
 -- it keeps those that it had
-more_requests : (s : Status) (a : Pair) (p : Process) → holds_request s p ≡ true → holds_request s (requested a p) ≡ true
+more_requests : (s : Status) (a : Pair) (p : Process) → holds_request s p ≡ true → holds_request s (requested a p)
+    ≡ true
 more_requests s a p has =
     rw (either_for p.link a s) (grow (for p.asked s) (for p.link s) (for a s) has)
   where

@@ -63,7 +63,8 @@ none_under_way stages idle n home =
     parts_none (λ p. bit (stages p.stage)) (fresh_state n home).processes
     (λ i _. each_fresh (λ (p : Process). bit (stages p.stage) ≡ 0) (ap bit idle) (ap bit idle) n home i)
 
-pub fresh_invariant : (n home : ℕ) → 2 ≤ n → n ≤ 64 → home < n → Invariant (fresh_state n home) (totals_of no_counts [] [])
+pub fresh_invariant : (n home : ℕ) → 2 ≤ n → n ≤ 64 → home < n
+    → Invariant (fresh_state n home) (totals_of no_counts [] [])
 unfolding fresh_state
 fresh_invariant n home two few below =
     record {

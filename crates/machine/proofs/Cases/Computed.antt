@@ -56,7 +56,8 @@ unfolding ask pass_for pass mark_for mark unmark clear wanted leave set_markers 
 of_put = true
 
 unfoldable pub of_events : Bool
-unfolding of_put start_put start_get work signal receive take_request put react change place reaction outcome apply quiet
+unfolding of_put start_put start_get work signal receive take_request put react change place reaction outcome apply
+    quiet
     stopped
 of_events = true
 
@@ -73,12 +74,14 @@ unfolding event_in events_in words check_from covered used_slots list_of block_b
 of_tape = true
 
 unfoldable pub of_tests : Bool
-unfolding first size_verdict home_verdict room_verdict front_verdict sound_verdict image_verdict event_fits event_verdict
+unfolding first size_verdict home_verdict room_verdict front_verdict sound_verdict image_verdict event_fits
+    event_verdict
     length_verdict list_verdict
 of_tests = true
 
 unfoldable pub of_blocks : Bool
-unfolding of_tests check_verdict block_fits number_verdict used_verdict unused_verdict block_verdict tape_verdict output_verdict
+unfolding of_tests check_verdict block_fits number_verdict used_verdict unused_verdict block_verdict tape_verdict
+    output_verdict
 of_blocks = true
 
 unfoldable pub of_image_calls : Bool
@@ -115,5 +118,6 @@ unfolding of_text few_verdict report_verdict ran_text report_text report_answer 
 of_report = true
 
 unfoldable pub rules : Bool
-unfolding of_bytes of_lists of_image of_sound of_events of_run of_balance of_tape of_blocks of_calls of_load of_host of_report
+unfolding of_bytes of_lists of_image of_sound of_events of_run of_balance of_tape of_blocks of_calls of_load of_host
+    of_report
 rules = true

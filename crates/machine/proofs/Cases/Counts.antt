@@ -65,7 +65,8 @@ apart rows = every 10 (λ j. every 10 (λ k. eqb j k || differ rows j k))
 
 pub no_two_alike :
     apart
-    (answers 2 (tape_of (first_ten ++ last_ten)) ∷ answers 2 (tape_of first_ten) ∷ answers 2 alone ∷ answers 3 onwards ∷ [])
+    (answers 2 (tape_of (first_ten ++ last_ten)) ∷ answers 2 (tape_of first_ten) ∷ answers 2 alone ∷ answers 3
+    onwards ∷ [])
     ≡ true
 unfolding rules first_ten last_ten alone onwards two_cross two_outlive three_cross three_outlive fill_at
 no_two_alike = refl

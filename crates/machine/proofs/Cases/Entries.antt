@@ -178,7 +178,8 @@ entry_8 = (
 abbrev pub Entry9 : Type 0
 Entry9 =
     (run_answer may_fill (tape_of (event 1 2 0)) (replicate 12 0) ≡ done (0 ∷ 0 ∷ 1 ∷ 0 ∷ 0 ∷ 0 ∷ 0 ∷ 1 ∷ 0 ∷ 0 ∷ []))
-    × (run_ledger may_fill (tape_of (event 1 2 0)) (replicate 12 0) ≡ 0 ∷ 0 ∷ 0 ∷ 0 ∷ 1 ∷ 2 ∷ 0 ∷ 0 ∷ 7 ∷ 0 ∷ 0 ∷ 0 ∷ [])
+    × (run_ledger may_fill (tape_of (event 1 2 0)) (replicate 12 0)
+    ≡ 0 ∷ 0 ∷ 0 ∷ 0 ∷ 1 ∷ 2 ∷ 0 ∷ 0 ∷ 7 ∷ 0 ∷ 0 ∷ 0 ∷ [])
     × (run_answer may_fill (tape_of (event 1 2 0)) (replicate 11 0) ≡ refused 10 0)
 
 pub entry_9 : Entry9

@@ -57,7 +57,8 @@ process_here t at p more h stands =
     (process_is p)
 
 records_from_lem : (ps : List Process) (rest : List ℕ) (i : ℕ) → i < length ps
-    → drop (8 * i) (record_bytes ps ++ rest) ≡ process_bytes (process_at ps i) ++ (record_bytes (drop (suc i) ps) ++ rest)
+    → drop (8 * i) (record_bytes ps ++ rest) ≡ process_bytes (process_at ps i)
+    ++ (record_bytes (drop (suc i) ps) ++ rest)
 unfolding record_bytes
 records_from_lem [] rest i h = absurd (omega arith)
 records_from_lem (p ∷ ps) rest zero h = append_assoc (process_bytes p) (record_bytes ps) rest

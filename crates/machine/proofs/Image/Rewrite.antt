@@ -39,7 +39,8 @@ zero_part s at zero h z = refl
 zero_part s at (suc width) h z =
     let both : eqb (get_or s at 0) 0 && zeros s (at + 1) width ≡ true = sym (zeros_more s at width) ∙ z in
     part_more s at width (omega arith)
-    ∙ ap₂ (λ (b : ℕ) (l : List ℕ). b ∷ l) (eqb-true _ _ (and_first (eqb (get_or s at 0) 0) (zeros s (at + 1) width) both))
+    ∙ ap₂ (λ (b : ℕ) (l : List ℕ). b ∷ l)
+    (eqb-true _ _ (and_first (eqb (get_or s at 0) 0) (zeros s (at + 1) width) both))
     (zero_part s (at + 1) width (omega arith) (and_second (eqb (get_or s at 0) 0) (zeros s (at + 1) width) both))
 
 pub bytes_number : (s : List ℕ) (at width : ℕ) → at + width ≤ length s → Bytes s

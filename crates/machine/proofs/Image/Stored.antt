@@ -59,7 +59,8 @@ replaced_in_range st i p range small =
 
 -- an image of n processes that is sound, in a buffer of bytes
 module _ (s : List ℕ) (room : image_length (size_in s) ≤ length s) (small : Bytes s) (fits : sound s ≡ true) where
-  pub store_process : (i : ℕ) (p : Process) → i < size_in s → with_process s i p ≡ image_with s (replaced (state_in s) i p)
+  pub store_process : (i : ℕ) (p : Process) → i < size_in s → with_process s i p
+      ≡ image_with s (replaced (state_in s) i p)
   store_process i p h =
       ap (λ (t : List ℕ). with_process t i p) (sym (rewrite_image s room small fits))
       ∙ write_process s (state_in s) i p (omega (arith, length_state s))

@@ -16,7 +16,8 @@ use Rattle.machine.specs.Ring.{record_at}
 use Rattle.machine.specs.Fields.{full, empty, blank}
 use Rattle.machine.specs.Image.{State, pair_bits, flag_bits, process_bytes, image_with}
 use Rattle.machine.specs.Stages.{last_stage}
-use Rattle.machine.specs.Sound.{header_fits, mark_fits, note_fits, record_rules_in, holds, records_fit, rest_fits, sound}
+use Rattle.machine.specs.Sound.{header_fits, mark_fits, note_fits, record_rules_in, holds, records_fit, rest_fits}
+use Rattle.machine.specs.Sound.{sound}
 use Rattle.machine.specs.Events.{process_at}
 use Rattle.machine.proofs.Laws.Lists.{every_same, every_all}
 use Rattle.machine.proofs.Laws.Bits.{bit_le, bit_is, pair_le, flags_le}
@@ -79,7 +80,8 @@ record_written : (s : List ℕ) (st : State) (i : ℕ) → i < length st.process
 unfolding process_bytes
 record_written s st i h small =
     let p = process_at st.processes i in
-    let byte = byte_here (image_with s st) (record_at i) (process_bytes p) (following s st i) (record_stands s st i h) in
+    let byte = byte_here (image_with s st) (record_at i) (process_bytes p) (following s st i)
+    (record_stands s st i h) in
     rw (read_process s st i h small, byte 1, byte 3, le-leb (flag_bits p) 7 (flags_le p)) (simp and-true)
 
 records_written : (s : List ℕ) (st : State) → InRange st

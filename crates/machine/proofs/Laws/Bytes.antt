@@ -62,7 +62,8 @@ pub number_2 : (s : List ℕ) (at : ℕ) → number s at 2 ≡ get_or s at 0 + 2
 number_2 s at = rw (number_more s at 1, number_more s (at + 1) 0, number_0 s (at + 1 + 1)) (omega arith)
 
 pub number_4 : (s : List ℕ) (at : ℕ)
-    → number s at 4 ≡ get_or s at 0 + 256 * get_or s (at + 1) 0 + 65536 * get_or s (at + 2) 0 + 16777216 * get_or s (at + 3) 0
+    → number s at 4 ≡ get_or s at 0 + 256 * get_or s (at + 1) 0 + 65536 * get_or s (at + 2) 0 + 16777216 * get_or s
+    (at + 3) 0
 number_4 s at =
     let two : at + 1 + 1 ≡ at + 2 = omega arith in
     let three : at + 2 + 1 ≡ at + 3 = omega arith in

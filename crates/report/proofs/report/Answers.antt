@@ -4,7 +4,8 @@ use Rattle.report.proofs.Call.{output_refused, report_done}
 use Rattle.report.proofs.report.Goals as goal
 
 pub returns-then-output-end : goal.returns-then-output-end
-returns-then-output-end c = let done = output_refused c.args.input.now c.args.output.now _ _ c.whole_text-end.ensures (omega arith)
+returns-then-output-end c = let done = output_refused c.args.input.now c.args.output.now _ _ c.whole_text-end.ensures
+    (omega arith)
     (omega arith) in record { answer = done.0; buffer = done.1.0; room = done.1.1 }
 
 pub returns : goal.returns

@@ -16,18 +16,21 @@ blank = replicate 528 0
 pub returns-in_default : goal.returns-in_default
 returns-in_default c =
     piece_is
-    (fresh_refused c.args.input.now blank (zeros_room 528) c.given.ensures.0 c.given-2.ensures.0 _ c.fresh-fresh.ensures.answer
+    (fresh_refused c.args.input.now blank (zeros_room 528) c.given.ensures.0 c.given-2.ensures.0 _
+    c.fresh-fresh.ensures.answer
     c.in_default.is c.refusal.ensures)
     c.put_refusal.ensures
 
 pub returns-then-input-gt-MOST_INPUT : goal.returns-then-input-gt-MOST_INPUT
 returns-then-input-gt-MOST_INPUT c =
-    piece_is (length_refused c.args.input.now blank (zeros_room 528) c.given.ensures.0 c.given-2.ensures.0 _ c.fresh-fresh.ensures.answer c.in-Done.is (omega arith))
+    piece_is (length_refused c.args.input.now blank (zeros_room 528) c.given.ensures.0 c.given-2.ensures.0 _
+    c.fresh-fresh.ensures.answer c.in-Done.is (omega arith))
     c.put_refusal-then-input-gt-MOST_INPUT.ensures
 
 pub run_text-requires : goal.run_text-requires
 run_text-requires c = (
-  image_accepted c.args.input.now blank (zeros_room 528) c.given.ensures.0 c.given-2.ensures.0 _ c.fresh-fresh.ensures.answer c.in-Done.is c.fresh-fresh.ensures.buffer,
+  image_accepted c.args.input.now blank (zeros_room 528) c.given.ensures.0 c.given-2.ensures.0 _
+      c.fresh-fresh.ensures.answer c.in-Done.is c.fresh-fresh.ensures.buffer,
   blocks_few c.args.input.now c.blocks_from-from.ensures (omega arith),
   omega arith,
 )
@@ -36,6 +39,7 @@ pub returns : goal.returns
 returns c =
     let tape = blocks_given c.args.input.now c.blocks_from-from.ensures in
     piece_is
-    (run_whole c.args.input.now blank (zeros_room 528) c.given.ensures.0 c.given-2.ensures.0 _ c.fresh-fresh.ensures.answer c.in-Done.is c.fresh-fresh.ensures.buffer (omega arith)
+    (run_whole c.args.input.now blank (zeros_room 528) c.given.ensures.0 c.given-2.ensures.0 _
+    c.fresh-fresh.ensures.answer c.in-Done.is c.fresh-fresh.ensures.buffer (omega arith)
     tape)
     c.run_text.ensures

@@ -12,7 +12,8 @@ loop-i-init c = (omega arith, refl, splice_none c.args.bytes.now c.args.at)
 
 pub loop-i-preserved : goal.loop-i-preserved
 loop-i-preserved c =
-    let more = ap (λ t. set t (c.args.at + c.loop-i.i) 0) c.loop-i.invariant.2 ∙ clear_more c.args.bytes.now c.args.at c.loop-i.i (omega arith) in
+    let more = ap (λ t. set t (c.args.at + c.loop-i.i) 0) c.loop-i.invariant.2
+    ∙ clear_more c.args.bytes.now c.args.at c.loop-i.i (omega arith) in
     (omega arith, simp length-set c.loop-i.invariant.1, more)
 
 pub returns : goal.returns

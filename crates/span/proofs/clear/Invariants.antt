@@ -7,4 +7,5 @@ use Rattle.span.proofs.clear.Given as goal
 
 abbrev pub invariant-loop-i : goal.invariant-loop-i
 invariant-loop-i l =
-    (l.i ≤ l.count) × (length l.bytes ≡ length l.initial.bytes) × (l.bytes ≡ splice l.initial.bytes l.at (replicate l.i 0))
+    (l.i ≤ l.count) × (length l.bytes ≡ length l.initial.bytes)
+    × (l.bytes ≡ splice l.initial.bytes l.at (replicate l.i 0))

@@ -11,8 +11,11 @@ pub loop-i-init : goal.loop-i-init
 loop-i-init c = (omega arith, ap₂ (zeros c.args.bytes.now) (omega arith) (omega arith))
 
 pub loop-i-preserved : goal.loop-i-preserved
-loop-i-preserved c =
-    (omega arith, sym (zeros_on c.args.bytes.now c.args.at c.loop-i.i c.args.count (omega arith) c.loop-i.any) ∙ c.loop-i.invariant.1)
+loop-i-preserved c = (
+  omega arith,
+  sym (zeros_on c.args.bytes.now c.args.at c.loop-i.i c.args.count (omega arith) c.loop-i.any)
+      ∙ c.loop-i.invariant.1,
+)
 
 pub returns : goal.returns
 returns c =

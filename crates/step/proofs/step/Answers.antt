@@ -22,4 +22,5 @@ outcome_in-requires c = search rules
 pub returns : goal.returns
 returns c = let done = step_done _ _ (sym c.step_verdict-verdict.ensures ∙ c.in-Fine.is)
     (λ k. (c.slice_known-1.given k).fits) (λ k. (c.type_inv.event k).fits)
-    c.turns-word.ensures.answer c.turns-word.ensures.buffers c.outcome_in.ensures c.traffic_in.ensures in record { answer = done.0; buffer = done.1 }
+    c.turns-word.ensures.answer c.turns-word.ensures.buffers c.outcome_in.ensures c.traffic_in.ensures in record
+    { answer = done.0; buffer = done.1 }

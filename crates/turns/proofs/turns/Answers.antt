@@ -65,14 +65,21 @@ enter-requires c =
 pub loop-k-preserved : goal.loop-k-preserved
 loop-k-preserved c =
     let next =
-    turned c.loop-k.invariant c.loop-k-test.true c.parse-event.ensures c.perform-done.ensures.answer.said c.perform-done.ensures.buffer in
+    turned c.loop-k.invariant c.loop-k-test.true c.parse-event.ensures c.perform-done.ensures.answer.said
+    c.perform-done.ensures.buffer in
     let u = traffic (state_in c.loop-k.image) (ruled c.parse-event.result) in
-    let still = idle_still c.loop-k.invariant c.loop-k-test.true c.parse-event.ensures c.perform-done.ensures.answer.said c.outcome_number-number.ensures in
-    let idle = word_idle c.loop-k.counts c.parse-event.result.code c.perform-done.result.outcome u c.outcome_number-number.ensures in
-    let moved = word_moved c.loop-k.counts c.parse-event.result.code c.perform-done.result.outcome u c.outcome_number-number.ensures c.perform-done.ensures.answer.counts in
-    let more = word_more c.loop-k.counts c.parse-event.result.code c.perform-done.result.outcome u c.outcome_number-number.ensures c.perform-done.ensures.answer.counts in
-    let none = none_entered c.loop-k.ledger c.loop-k.place c.loop-k.k c.parse-event.result.process c.perform-done.result.outcome c.outcome_number-number.ensures in
-    let one = record_long c.loop-k.ledger c.loop-k.place c.loop-k.k c.parse-event.result.process c.perform-done.result.outcome c.outcome_number-number.ensures in
+    let still = idle_still c.loop-k.invariant c.loop-k-test.true c.parse-event.ensures
+    c.perform-done.ensures.answer.said c.outcome_number-number.ensures in
+    let idle = word_idle c.loop-k.counts c.parse-event.result.code c.perform-done.result.outcome u
+    c.outcome_number-number.ensures in
+    let moved = word_moved c.loop-k.counts c.parse-event.result.code c.perform-done.result.outcome u
+    c.outcome_number-number.ensures c.perform-done.ensures.answer.counts in
+    let more = word_more c.loop-k.counts c.parse-event.result.code c.perform-done.result.outcome u
+    c.outcome_number-number.ensures c.perform-done.ensures.answer.counts in
+    let none = none_entered c.loop-k.ledger c.loop-k.place c.loop-k.k c.parse-event.result.process
+    c.perform-done.result.outcome c.outcome_number-number.ensures in
+    let one = record_long c.loop-k.ledger c.loop-k.place c.loop-k.k c.parse-event.result.process
+    c.perform-done.result.outcome c.outcome_number-number.ensures in
     elim c.if-number-eq0.branch [
       | then-number-eq0 w ↦
           rw (w.ledger-is, w.counts-is, w.place-is)

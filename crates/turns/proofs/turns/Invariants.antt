@@ -6,7 +6,8 @@ use Rattle.turns.proofs.turns.Given as goal
 
 abbrev pub invariant-loop-k : goal.invariant-loop-k
 invariant-loop-k l =
-    Progress l.initial.image l.bytes l.start l.first l.end l.initial.ledger l.from l.image l.ledger l.counts l.place l.k l.at
+    Progress l.initial.image l.bytes l.start l.first l.end l.initial.ledger l.from l.image l.ledger l.counts l.place
+    l.k l.at
 
 abbrev pub decreases-loop-k : goal.decreases-loop-k
 decreases-loop-k l =
