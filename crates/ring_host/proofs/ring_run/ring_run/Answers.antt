@@ -3,8 +3,8 @@ use native.Mathlib.Omega.{arith}
 use Rattle.ring_host.proofs.Ways.{run_short, run_refused, run_done}
 use Rattle.ring_host.proofs.ring_run.ring_run.Goals as goal
 
-pub returns-then-res-lt-ROOM : goal.returns-then-res-lt-ROOM
-returns-then-res-lt-ROOM c =
+pub returns-then-is_short : goal.returns-then-is_short
+returns-then-is_short c =
     let done = run_short c.args.image.now c.args.tape.now c.args.ledger.now c.args.res.now (omega arith)
     c.inputs_verdict.ensures c.short.ensures in
     record { number = done.0; buffer = done.1.0; records = done.1.1.0; told = done.1.1.1 }

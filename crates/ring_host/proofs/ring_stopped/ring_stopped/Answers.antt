@@ -4,8 +4,8 @@ use Rattle.stopped.proofs.Refused.{neither_refused}
 use Rattle.ring_host.proofs.Ways.{stopped_short, stopped_refused, stopped_yes, stopped_no}
 use Rattle.ring_host.proofs.ring_stopped.ring_stopped.Goals as goal
 
-pub returns-then-res-lt-ROOM : goal.returns-then-res-lt-ROOM
-returns-then-res-lt-ROOM c =
+pub returns-then-is_short : goal.returns-then-is_short
+returns-then-is_short c =
     let done = stopped_short c.args.image.now c.args.res.now (omega arith) c.image_verdict.ensures c.short.ensures
     in
     record { number = done.0; told = done.1 }

@@ -3,8 +3,8 @@ use native.Mathlib.Omega.{arith}
 use Rattle.ring_tools.proofs.Ways.{fresh_short, fresh_refused, fresh_done}
 use Rattle.ring_tools.proofs.ring_fresh.ring_fresh.Goals as goal
 
-pub returns-then-res-lt-ROOM : goal.returns-then-res-lt-ROOM
-returns-then-res-lt-ROOM c =
+pub returns-then-is_short : goal.returns-then-is_short
+returns-then-is_short c =
     let done = fresh_short c.args.res.now (omega arith) c.args.n c.args.home c.args.image.now
     c.fresh_verdict.ensures c.short.ensures in
     record { number = done.0; buffer = done.1.0; told = done.1.1 }

@@ -4,8 +4,8 @@ use native.Mathlib.Omega.{arith}
 use Rattle.ring_tools.proofs.Ways.{read_short, filled_refused, filled_done}
 use Rattle.ring_tools.proofs.ring_read.ring_read.Goals as goal
 
-pub returns-then-res-lt-ROOM : goal.returns-then-res-lt-ROOM
-returns-then-res-lt-ROOM c =
+pub returns-then-is_short : goal.returns-then-is_short
+returns-then-is_short c =
     let done = read_short c.args.res.now (omega arith) c.args.n c.args.tape.now c.args.output.now
     c.read_verdict.ensures c.short.ensures in
     record { number = done.0; buffer = done.1.0; told = done.1.1 }

@@ -3,8 +3,8 @@ use native.Mathlib.Omega.{arith}
 use Rattle.ring_tools.proofs.Ways.{survey_short, survey_refused, survey_done}
 use Rattle.ring_tools.proofs.ring_survey.ring_survey.Goals as goal
 
-pub returns-then-res-lt-ROOM : goal.returns-then-res-lt-ROOM
-returns-then-res-lt-ROOM c =
+pub returns-then-is_short : goal.returns-then-is_short
+returns-then-is_short c =
     let done = survey_short c.args.image.now c.args.res.now (omega arith) c.front_verdict.ensures c.short.ensures in
     record { number = done.0; told = done.1 }
 
