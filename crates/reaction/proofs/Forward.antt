@@ -20,7 +20,7 @@ use Rattle.reaction.specs.Reaction.{asks_in, shown, Begun, Makes}
 use Rattle.reaction.proofs.Bits.{heeded, gone_along}
 use Rattle.reaction.proofs.Made.{turned, seen}
 
-module _ (r : Reaction) (begun : Begun r) {asked : ℕ} (Asked_is : asked ≡ asked_of r.own.word)
+module _ (r : Reaction) (begun : Begun r) {asked : ℕ} (asked_is : asked ≡ asked_of r.own.word)
     {with_markers : Header}
     (word : with_markers.word ≡ bit_or r.header.word (asked * 65536))
     (message : with_markers.message ≡ r.header.message) where
@@ -36,7 +36,7 @@ module _ (r : Reaction) (begun : Begun r) {asked : ℕ} (Asked_is : asked ≡ as
 
   markers_fields : Fields with_markers.word (stage_of h) (flags_of h) markers (spare_of h) (note_of h)
   markers_fields =
-      rw (word, Asked_is ∙ asked_in w) (set_in_2 h (requests_of w % 4) (omega arith))
+      rw (word, asked_is ∙ asked_in w) (set_in_2 h (requests_of w % 4) (omega arith))
 
   pub markers_tidy : TidyHeader with_markers
   markers_tidy =

@@ -102,8 +102,8 @@ module _ (r : Reaction) (begun : Begun r) (wish : ℕ) (few : wish < 3) where
       → own.word ≡ bit_or w (bit_or asked wish * 262144)
       → Makes (λ x. rule.pass (asking wish x)) r
       (turned r own r.header (Left (bit_and (bit_or asked wish) (3 - itself))) r.outcome)
-  pass_made {asked} {itself} Asked_is itself_is {own} word =
-      let low : asked ≡ q % 4 = Asked_is ∙ asked_in w in
+  pass_made {asked} {itself} asked_is itself_is {own} word =
+      let low : asked ≡ q % 4 = asked_is ∙ asked_in w in
       let high : itself ≡ q / 4 % 4 = itself_is ∙ itself_in w in
       let room : wanted_in wish q < 4 = or_lt 2 (q % 4) wish (omega arith) (omega arith) in
       let up : bit_or asked wish * 262144 ≡ wanted_in wish q * 4 * 65536 =

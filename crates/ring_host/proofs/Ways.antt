@@ -125,7 +125,8 @@ module _ (image tape ledger result : List ℕ) where
 -- ---- stopped
 
 module _ (image result : List ℕ) where
-  pub stopped_short : length result < 80 → {n : ℕ} {v : Verdict} → v ≡ image_verdict image → n ≡ number_of (refusal_of v)
+  pub stopped_short : length result < 80 → {n : ℕ} {v : Verdict} → v ≡ image_verdict image
+      → n ≡ number_of (refusal_of v)
       → Tells (stopped_answer image) result n result
   unfolding stopped_answer
   stopped_short short is number =

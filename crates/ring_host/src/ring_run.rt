@@ -21,7 +21,8 @@ pub extern "C" fn ring_run(image: &mut [u8], tape: &[u8], ledger: &mut [u8], res
         ≡ result_after (run_answer image.old tape.now ledger.old)
         res.old }
 {
-    if res.len() < ROOM {
+    let is_short = res.len() < ROOM;
+    if is_short {
         return short(inputs_verdict(image, tape));
     }
     let answer = run(image, tape, ledger);

@@ -17,7 +17,8 @@ pub extern "C" fn ring_step(image: &mut [u8], event: &[u8], res: &mut [u8]) -> u
     ensures told { res.new
         ≡ result_after (step_answer image.old event.now) res.old }
 {
-    if res.len() < ROOM {
+    let is_short = res.len() < ROOM;
+    if is_short {
         return short(step_verdict(image, event));
     }
     let answer = step(image, event);

@@ -14,7 +14,8 @@ pub extern "C" fn ring_stopped(image: &[u8], res: &mut [u8]) -> u64
     ensures told { res.new
         ≡ result_after (stopped_answer image.now) res.old }
 {
-    if res.len() < ROOM {
+    let is_short = res.len() < ROOM;
+    if is_short {
         return short(image_verdict(image));
     }
     let answer = stopped(image);

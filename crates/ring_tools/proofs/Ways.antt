@@ -50,26 +50,29 @@ module _ (result : List ℕ) (short : length result < 80) (n : ℕ) where
   filled_short : (first second : Verdict) (needed : ℕ) (output done values : List ℕ) {m : ℕ} {v : Verdict}
       → v ≡ or_else first second
       → m ≡ number_of (refusal_of v)
-      → Leaves (answer (or_else first (or_else second (output_verdict needed output))) values) result output done m output
-      result
+      → Leaves (answer (or_else first (or_else second (output_verdict needed output))) values) result output done m
+      output result
   filled_short first second needed output done values is number =
       short_left result short output done (or_else first (or_else second (output_verdict needed output))) values
       (number ∙ ap (λ v. number_of (refusal_of v)) is ∙ ap number_of (output_unmeasured first second needed output))
 
-  pub write_short : (list output : List ℕ) {m : ℕ} {v : Verdict} → v ≡ or_else (size_verdict n) (list_verdict codes n list)
+  pub write_short : (list output : List ℕ) {m : ℕ} {v : Verdict}
+      → v ≡ or_else (size_verdict n) (list_verdict codes n list)
       → m ≡ number_of (refusal_of v)
       → Leaves (write_answer n list output) result output (write_output n list output) m output result
   unfolding write_answer write_verdict
   write_short list output =
-      filled_short (size_verdict n) (list_verdict codes n list) (length (tape_of list)) output (write_output n list output)
-      _
+      filled_short (size_verdict n) (list_verdict codes n list) (length (tape_of list)) output
+      (write_output n list output) _
 
-  pub read_short : (tape output : List ℕ) {m : ℕ} {v : Verdict} → v ≡ or_else (size_verdict n) (tape_verdict codes n tape)
+  pub read_short : (tape output : List ℕ) {m : ℕ} {v : Verdict}
+      → v ≡ or_else (size_verdict n) (tape_verdict codes n tape)
       → m ≡ number_of (refusal_of v)
       → Leaves (read_answer n tape output) result output (read_output n tape output) m output result
   unfolding read_answer read_verdict
   read_short tape output =
-      filled_short (size_verdict n) (tape_verdict codes n tape) (length (list_of tape)) output (read_output n tape output) _
+      filled_short (size_verdict n) (tape_verdict codes n tape) (length (list_of tape)) output
+      (read_output n tape output) _
 
   pub load_short : (seed count : ℕ) (output : List ℕ) {m : ℕ} {v : Verdict}
       → v ≡ or_else (size_verdict n) (or_else (seed_verdict seed) (count_verdict count))
@@ -93,8 +96,8 @@ module _ (result : List ℕ) (room : 80 ≤ length result) (before : List ℕ) {
         → u ≡ splice result 0 (result_bytes (place_of r ∷ []))
         → Leaves a result before done m t u
     fresh_refused {r = r} is found number wrote =
-        refused_left result room before left r (rw (found ∙ ap fresh.refusal_of is) (sym (ap fresh.in_numbers is) ∙ says))
-        number wrote
+        refused_left result room before left r
+        (rw (found ∙ ap fresh.refusal_of is) (sym (ap fresh.in_numbers is) ∙ says)) number wrote
 
     pub fresh_done : {u : List ℕ} → f ≡ fresh-answer.Done → u ≡ splice result 0 (words_of (replicate 10 0))
         → Leaves a result before done 0 t u

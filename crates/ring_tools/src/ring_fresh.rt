@@ -15,7 +15,8 @@ pub extern "C" fn ring_fresh(n: u64, home: u64, image: &mut [u8], res: &mut [u8]
     ensures told { res.new
         ≡ result_after (fresh_answer n home image.old) res.old }
 {
-    if res.len() < ROOM {
+    let is_short = res.len() < ROOM;
+    if is_short {
         return short(Ring::fresh_verdict(n, home, image));
     }
     let answer = Ring::fresh(n, home, image);

@@ -16,7 +16,8 @@ pub extern "C" fn ring_load(n: u64, seed: u64, count: u64, output: &mut [u8], re
     ensures told { res.new
         ≡ result_after (load_answer n seed count output.old) res.old }
 {
-    if res.len() < ROOM {
+    let is_short = res.len() < ROOM;
+    if is_short {
         return short(load_verdict(n, seed, count));
     }
     let answer = load(n, seed, count, output);

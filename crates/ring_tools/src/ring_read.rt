@@ -17,7 +17,8 @@ pub extern "C" fn ring_read(n: u64, tape: &[u8], output: &mut [u8], res: &mut [u
     ensures told { res.new
         ≡ result_after (read_answer n tape.now output.old) res.old }
 {
-    if res.len() < ROOM {
+    let is_short = res.len() < ROOM;
+    if is_short {
         return short(read_verdict(n, tape));
     }
     let answer = read(n, tape, output);

@@ -17,7 +17,8 @@ pub extern "C" fn ring_write(n: u64, list: &[u8], output: &mut [u8], res: &mut [
     ensures told { res.new
         ≡ result_after (write_answer n list.now output.old) res.old }
 {
-    if res.len() < ROOM {
+    let is_short = res.len() < ROOM;
+    if is_short {
         return short(write_verdict(n, list));
     }
     let answer = write(n, list, output);

@@ -5,7 +5,8 @@
 // What it writes is `report::report` of what it reads, which is proved; this program only reads and writes. One byte
 // more than can be accepted is enough to know that there is too much, so no more is read. `main` has no contract:
 // proved of it is that it stays within its buffers and ends. That it read one byte too few would be seen by the samples
-// alone (`size-64-blocks-and-a-byte`), and so would text that it left out.
+// alone (`size-64-blocks-and-a-byte`), and so would text that it left out. A read or a write that fails ends it with
+// the system's error.
 #![tactic(auto)]
 
 ghost use Rattle.std.specs.Prelude.{◌≤◌, length, IfOk};
