@@ -26,8 +26,8 @@ CRATES =
 RINGRUN = crates/ringrun/out/ringrun
 ARCHIVES = mkdir -p target/staticlib; \
 	for name in ring_host ring_tools; do \
-		(cd "crates/$$name" && rt lib); \
-		cp "crates/$$name/out/lib$$name.a" target/staticlib/; \
+		(cd "crates/$${name}_c" && rt lib); \
+		cp "crates/$${name}_c/out/lib$${name}_c.a" "target/staticlib/lib$$name.a"; \
 	done
 .PHONY: test check run archives bench count
 

@@ -12,7 +12,7 @@ use std::path::{Path, PathBuf};
 use std::process;
 use std::time::SystemTime;
 
-/// The archives, by the names that `rt lib` has for them.
+/// The archives, by the names of the crates that they export.
 const ARCHIVES: [&str; 2] = ["ring_host", "ring_tools"];
 
 fn main() {

@@ -7,8 +7,7 @@ use result_slice::{ROOM, refused, short, tell};
 use run::{RunAnswer, inputs_verdict, run};
 
 // The run call: the eight counts are told, then the traffic.
-#[unsafe(no_mangle)]
-pub extern "C" fn ring_run(image: &mut [u8], tape: &[u8], ledger: &mut [u8], res: &mut [u8]) -> u64
+pub fn ring_run(image: &mut [u8], tape: &[u8], ledger: &mut [u8], res: &mut [u8]) -> u64
     ensures number { result
         ≡ returned (run_answer image.old tape.now ledger.old) res.old }
     ensures buffer { image.new

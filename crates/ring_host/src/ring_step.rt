@@ -8,8 +8,7 @@ use result_slice::{ROOM, refused, short, tell};
 use step::{StepAnswer, step, step_verdict};
 
 // The step call: the outcome's number and message are told, then the traffic.
-#[unsafe(no_mangle)]
-pub extern "C" fn ring_step(image: &mut [u8], event: &[u8], res: &mut [u8]) -> u64
+pub fn ring_step(image: &mut [u8], event: &[u8], res: &mut [u8]) -> u64
     ensures number { result
         ≡ returned (step_answer image.old event.now) res.old }
     ensures buffer { image.new

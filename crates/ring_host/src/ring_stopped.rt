@@ -8,8 +8,7 @@ use sound::image_verdict;
 use stopped::{StoppedAnswer, stopped};
 
 // The stopped call: 1 is told for yes, 0 for no.
-#[unsafe(no_mangle)]
-pub extern "C" fn ring_stopped(image: &[u8], res: &mut [u8]) -> u64
+pub fn ring_stopped(image: &[u8], res: &mut [u8]) -> u64
     ensures number { result ≡ returned (stopped_answer image.now) res.old }
     ensures told { res.new
         ≡ result_after (stopped_answer image.now) res.old }

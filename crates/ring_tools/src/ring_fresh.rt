@@ -7,8 +7,7 @@ use image::{FreshAnswer, Ring};
 use result_slice::{ROOM, refused, short, tell};
 
 // The fresh ring call: there are no values to tell.
-#[unsafe(no_mangle)]
-pub extern "C" fn ring_fresh(n: u64, home: u64, image: &mut [u8], res: &mut [u8]) -> u64
+pub fn ring_fresh(n: u64, home: u64, image: &mut [u8], res: &mut [u8]) -> u64
     ensures number { result ≡ returned (fresh_answer n home image.old) res.old }
     ensures buffer { image.new
         ≡ lent_with res.old image.old (fresh_image n home image.old) }

@@ -8,8 +8,7 @@ use result_slice::{ROOM, refused, short, tell_one};
 use tape::Filled;
 
 // The load call: how many bytes it filled is told.
-#[unsafe(no_mangle)]
-pub extern "C" fn ring_load(n: u64, seed: u64, count: u64, output: &mut [u8], res: &mut [u8]) -> u64
+pub fn ring_load(n: u64, seed: u64, count: u64, output: &mut [u8], res: &mut [u8]) -> u64
     ensures number { result ≡ returned (load_answer n seed count output.old) res.old }
     ensures buffer { output.new
         ≡ lent_with res.old output.old (load_output n seed count output.old) }

@@ -7,8 +7,7 @@ use result_slice::{ROOM, refused, short, tell_one};
 use tape::{Filled, read, read_verdict};
 
 // The reader call: how many bytes it filled is told.
-#[unsafe(no_mangle)]
-pub extern "C" fn ring_read(n: u64, tape: &[u8], output: &mut [u8], res: &mut [u8]) -> u64
+pub fn ring_read(n: u64, tape: &[u8], output: &mut [u8], res: &mut [u8]) -> u64
     ensures number { result
         ≡ returned (read_answer n tape.now output.old) res.old }
     ensures buffer { output.new

@@ -8,8 +8,7 @@ use result_slice::{ROOM, refused, short, tell};
 use sound::{Surveyed, front_verdict, survey};
 
 // The survey call: the verdict's number and place, the flags and both sets are told.
-#[unsafe(no_mangle)]
-pub extern "C" fn ring_survey(image: &[u8], res: &mut [u8]) -> u64
+pub fn ring_survey(image: &[u8], res: &mut [u8]) -> u64
     ensures number { result ≡ returned (survey_answer image.now) res.old }
     ensures told { res.new
         ≡ result_after (survey_answer image.now) res.old }

@@ -7,8 +7,7 @@ use result_slice::{ROOM, refused, short, tell_one};
 use tape::{Filled, write, write_verdict};
 
 // The writer call: how many bytes it filled is told.
-#[unsafe(no_mangle)]
-pub extern "C" fn ring_write(n: u64, list: &[u8], output: &mut [u8], res: &mut [u8]) -> u64
+pub fn ring_write(n: u64, list: &[u8], output: &mut [u8], res: &mut [u8]) -> u64
     ensures number { result
         ≡ returned (write_answer n list.now output.old) res.old }
     ensures buffer { output.new

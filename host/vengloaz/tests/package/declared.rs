@@ -107,9 +107,9 @@ fn exported(name: &str) -> Functions {
 
 #[test]
 fn c_and_rust_declare_what_the_archives_export() {
-    let host = exported("ring_host");
+    let host = exported("ring_host_c");
     assert_eq!(host.keys().collect::<Vec<_>>(), ["ring_run", "ring_step", "ring_stopped"]);
-    let mut all = exported("ring_tools");
+    let mut all = exported("ring_tools_c");
     assert_eq!(all.keys().collect::<Vec<_>>(), ["ring_fresh", "ring_load", "ring_read", "ring_survey", "ring_write"]);
     all.extend(host);
     assert_eq!(in_c(HEADER), all);
