@@ -83,7 +83,8 @@ fn whole_text(input: &[u8], page: &mut [u8]) -> usize
     let FreshAnswer::Done = fresh else {
         return put_refusal(page, fresh.refusal());
     };
-    if MOST_INPUT < input.len() {
+    let too_long = MOST_INPUT < input.len();
+    if too_long {
         return put_refusal(page, Refusal::Length);
     }
     let from = blocks_from(input.len());

@@ -74,7 +74,8 @@ fn sound_verdict(image: &[u8], n: usize, walk: Walk) -> Verdict
     if walk.flags() != 1 {
         return Verdict::Refused(Refusal::Unsound);
     }
-    if walk.counts() != first / 0x100_0000 {
+    let miscounted = walk.counts() != first / 0x100_0000;
+    if miscounted {
         return Verdict::Refused(Refusal::Unsound);
     }
     Verdict::Fine
@@ -104,10 +105,12 @@ pub fn front_verdict(image: &[u8]) -> Verdict
         return Verdict::Refused(Refusal::Short);
     }
     let n = wide(image[0]);
-    if n < Ring::LEAST {
+    let too_few = n < Ring::LEAST;
+    if too_few {
         return Verdict::Refused(Refusal::Unsound);
     }
-    if Ring::MOST < n {
+    let too_many = Ring::MOST < n;
+    if too_many {
         return Verdict::Refused(Refusal::Unsound);
     }
     if image.len() < 16 + 8 * n {

@@ -17,7 +17,8 @@ pub fn length_verdict(bytes: &[u8], unit: usize, most: usize) -> Verdict
     requires { 0 < unit }
     ensures { result ≡ rule.length_verdict unit most bytes.now }
 {
-    if (bytes.len() % unit == 0) & (bytes.len() / unit <= most) {
+    let fits = (bytes.len() % unit == 0) & (bytes.len() / unit <= most);
+    if fits {
         Verdict::Fine
     } else {
         Verdict::Refused(Refusal::Length)
@@ -40,7 +41,8 @@ fn head_verdict(tape: &[u8], b: usize) -> Verdict
     let number = word_at(tape, start) as usize;
     let count = word_at(tape, start + 2) as usize;
     let last = b + 1 == tape.len() / 512;
-    if (number == b) & (1 <= count) & (count <= 63) & ((count == 63) | last) {
+    let fits = (number == b) & (1 <= count) & (count <= 63) & ((count == 63) | last);
+    if fits {
         Verdict::Fine
     } else {
         Verdict::Refused(Refusal::Block(b))

@@ -14,7 +14,8 @@ pub fn put_decimal(out: &mut [u8], at: usize, n: u64) -> usize
     requires { at + length (decimal n) ≤ length out.old }
     ensures { Piece out.old at (decimal n) out.new result }
 {
-    if n < 10 {
+    let single = n < 10;
+    if single {
         out[at] = (48 + n) as u8;
         return at + 1;
     }

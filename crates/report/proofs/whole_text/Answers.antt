@@ -21,11 +21,11 @@ returns-in_default c =
     c.in_default.is c.refusal.ensures)
     c.put_refusal.ensures
 
-pub returns-then-input-gt-MOST_INPUT : goal.returns-then-input-gt-MOST_INPUT
-returns-then-input-gt-MOST_INPUT c =
+pub returns-then-too_long : goal.returns-then-too_long
+returns-then-too_long c =
     piece_is (length_refused c.args.input.now blank (zeros_room 528) c.given.ensures.0 c.given-2.ensures.0 _
     c.fresh-fresh.ensures.answer c.in-Done.is (omega arith))
-    c.put_refusal-then-input-gt-MOST_INPUT.ensures
+    c.put_refusal-then-too_long.ensures
 
 pub run_text-requires : goal.run_text-requires
 run_text-requires c = (

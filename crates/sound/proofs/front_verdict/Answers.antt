@@ -9,12 +9,12 @@ use Rattle.sound.proofs.front_verdict.Goals as goal
 pub returns-then-image-lt16 : goal.returns-then-image-lt16
 returns-then-image-lt16 c = sym (front_under_16 c.args.image.now c.if-image-lt16.true)
 
-pub returns-then-n-lt-LEAST : goal.returns-then-n-lt-LEAST
-returns-then-n-lt-LEAST c =
+pub returns-then-too_few : goal.returns-then-too_few
+returns-then-too_few c =
     sym (front_too_few c.args.image.now (omega arith) (omega arith))
 
-pub returns-then-n-gt-MOST : goal.returns-then-n-gt-MOST
-returns-then-n-gt-MOST c =
+pub returns-then-too_many : goal.returns-then-too_many
+returns-then-too_many c =
     sym (front_too_many c.args.image.now (omega arith) (omega arith) (omega arith))
 
 pub returns-then-image-n : goal.returns-then-image-n

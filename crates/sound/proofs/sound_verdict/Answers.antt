@@ -33,11 +33,11 @@ returns-then-flags-ne1 c =
     flags_refuse c.args.image.now (λ k. omega (arith, c.type_inv.image k)) c.requires.0
     c.requires.1 c.requires.3 c.flags.ensures c.if-flags-ne1.true
 
-pub returns-then-counts-first : goal.returns-then-counts-first
-returns-then-counts-first c =
+pub returns-then-miscounted : goal.returns-then-miscounted
+returns-then-miscounted c =
     counts_refuse c.args.image.now (λ k. omega (arith, c.type_inv.image k)) c.requires.0
     c.requires.1 c.requires.3 c.eight_at-first.ensures
-    c.counts.ensures c.if-counts-first.true
+    c.counts.ensures c.if-miscounted.true
 
 pub returns : goal.returns
 returns c =
@@ -45,4 +45,4 @@ returns c =
     c.requires.1 c.requires.3 c.eight_at-first.ensures
     c.eight_at.ensures c.if-first-ne0.false c.if-first-eight_at.false c.if-walk-n.false
     c.stages_stand.ensures (ap not c.if-not-stages_stand.false) c.flags.ensures c.if-flags-ne1.false
-    c.counts.ensures c.if-counts-first.false
+    c.counts.ensures c.if-miscounted.false

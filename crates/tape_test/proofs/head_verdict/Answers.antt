@@ -7,12 +7,12 @@ returns-then-check_of-written c =
     head_damaged c.args.tape.now c.args.b c.check_of.ensures c.number_at-written.ensures
     c.if-check_of-written.true
 
-pub returns-then-number-b : goal.returns-then-number-b
-returns-then-number-b c =
+pub returns-then-fits : goal.returns-then-fits
+returns-then-fits c =
     head_fits_lem c.args.tape.now c.args.b c.check_of.ensures c.number_at-written.ensures c.if-check_of-written.false
-    c.word_at-number.ensures.0 c.word_at-count.ensures.0 c.if-number-b.true
+    c.word_at-number.ensures.0 c.word_at-count.ensures.0 c.if-fits.true
 
-pub returns-else-number-b : goal.returns-else-number-b
-returns-else-number-b c =
+pub returns-else-fits : goal.returns-else-fits
+returns-else-fits c =
     head_unfit c.args.tape.now c.args.b c.check_of.ensures c.number_at-written.ensures c.if-check_of-written.false
-    c.word_at-number.ensures.0 c.word_at-count.ensures.0 c.if-number-b.false
+    c.word_at-number.ensures.0 c.word_at-count.ensures.0 c.if-fits.false

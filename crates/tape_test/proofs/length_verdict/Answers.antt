@@ -2,10 +2,10 @@
 use Rattle.tape_test.proofs.Ways.{length_fits_lem, length_unfit}
 use Rattle.tape_test.proofs.length_verdict.Goals as goal
 
-pub returns-then-bytes-unit : goal.returns-then-bytes-unit
-returns-then-bytes-unit c =
-    length_fits_lem c.args.unit c.args.most c.args.bytes.now c.if-bytes-unit.true
+pub returns-then-fits : goal.returns-then-fits
+returns-then-fits c =
+    length_fits_lem c.args.unit c.args.most c.args.bytes.now c.if-fits.true
 
-pub returns-else-bytes-unit : goal.returns-else-bytes-unit
-returns-else-bytes-unit c =
-    length_unfit c.args.unit c.args.most c.args.bytes.now c.if-bytes-unit.false
+pub returns-else-fits : goal.returns-else-fits
+returns-else-fits c =
+    length_unfit c.args.unit c.args.most c.args.bytes.now c.if-fits.false

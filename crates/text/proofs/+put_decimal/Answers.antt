@@ -7,8 +7,8 @@ use Rattle.text.proofs.+put_decimal.Goals as goal
 pub bounds-out-at : goal.bounds-out-at
 bounds-out-at t c = omega (arith, length_one c.args.n (omega arith))
 
-pub returns-then-n-lt10 : goal.returns-then-n-lt10
-returns-then-n-lt10 t c = piece_digit c.args.out.now c.args.at c.args.n (omega arith) (omega arith)
+pub returns-then-single : goal.returns-then-single
+returns-then-single t c = piece_digit c.args.out.now c.args.at c.args.n (omega arith) (omega arith)
 
 pub put_decimal-last-requires : goal.put_decimal-last-requires
 put_decimal-last-requires t c = (omega arith, omega (arith, length_more c.args.n (omega arith)))

@@ -15,7 +15,7 @@ stayed (Left asks) other = refl
 stayed Right other = absurd (other refl)
 
 pub returns-in_default : goal.returns-in_default
-returns-in_default c = end_stayed _ c.requires (stayed c.args.r.reach c.in_default.not-Right)
+returns-in_default c = search (rules, end_stayed, stayed)
 
 pub returns : goal.returns
 returns c = search (rules, end_left)
