@@ -1,6 +1,7 @@
 #!/usr/bin/env python3
 """Brings the names of this repository's definitions and lemmas to snake case: frontVerdict and put-ended become
-front_verdict and put_ended. Run once at the top, after the kit's port.py; a second run changes nothing.
+front_verdict and put_ended. It was run once at the top, after the kit's port.py (docs/PORT.md), and not again: what
+Rattle names, and what APART has turned, it would turn once more.
 
 What turns: in .antt files each name that the repository itself declares, in code and, where it is no plain word, in
 comments; in .rt files the same names inside clauses and `ghost use` lines, and in comments. What stays: the kit's
