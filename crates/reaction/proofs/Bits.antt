@@ -4,7 +4,7 @@ use Prim.Native.Nat.{ℕ, zero, suc, ◌-◌, ◌*◌, ◌/◌, ◌%◌, ◌^◌
 use mathlib.Core.Path.{◌≡◌, refl, ap, ◌∙◌}
 use mathlib.Core.Bool.{true, false, not, cond, ◌&&◌, ◌||◌}
 use native.Mathlib.Omega.{arith}
-use lib.Bits.{bit_and, bit_or, or_shr, or_mod}
+use lib.Bits.{bit_and, bit_or, or_shr, or_mod, or_lt}
 use lib.Dec.{eqb}
 use Rattle.machine.specs.declared.Pair.{Pair}
 use Rattle.machine.specs.Bytes.{bit_of}
@@ -153,3 +153,7 @@ module _ (wish : ℕ) (few : wish < 3) (r : ℕ) (h : r < 256) where
       pair_test (asks wish) (asks_with wish)
       (every_at 3 (λ n. every 256 (λ k. same_pair (asks n k) (asks_with n k))) refl wish few)
       r h
+
+-- what is asked and what is wished are two bits together
+pub wants_few : (asked wish : ℕ) → asked < 4 → wish < 3 → bit_or asked wish < 4
+wants_few asked wish two one = or_lt 2 asked wish two (omega arith)

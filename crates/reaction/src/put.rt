@@ -18,6 +18,7 @@ fn pair_for(full: bool) -> u64
 }
 
 // Ask the left for what is wished, and pass on what the right has asked for, unless asked already.
+#[tactic(auto, using(crate::proofs::Bits::wants_few))]
 fn pass(wish: u64, r: Reaction) -> Reaction
     requires { (wish < 3) × Begun r }
     ensures { Makes (λ x. rule.pass (asking wish x)) r result }
