@@ -1,6 +1,7 @@
 -- What every call keeps, refused or not: the image is accepted, of the same size, and the invariant of its state holds
 -- with what the calls have shown so far. A refused call changes and shows nothing; a step does what one event does, and
 -- a run what its list of events does.
+use Rattle.std.specs.Prelude.{Err, Ok}
 use Prim.Native.Nat.{ℕ, ◌^◌}
 use mathlib.Core.Path.{◌≡◌, refl, sym, subst, ◌∙◌}
 use mathlib.Core.Bool.{true}
@@ -10,8 +11,7 @@ use lib.ListN.{length}
 use lib.Dec.{ltb}
 use borrow.Author.Tests.{lt-ltb}
 use Rattle.machine.specs.declared.Refusal.{Refusal}
-use Rattle.machine.specs.declared.Verdict.{Verdict}
-use Rattle.machine.specs.declared.Verdict.TheVariants.{Fine, Refused}
+use Rattle.machine.specs.Verdict.{Verdict}
 use Rattle.machine.specs.Bytes.{Bytes, splice}
 use Rattle.machine.specs.Lists.{all}
 use Rattle.machine.specs.Image.{State, size_in, state_in, image_with}
@@ -39,16 +39,16 @@ use Rattle.calls.proofs.Shown.{plus_nothing, step_refused, run_refused, step_sho
 
 -- what is known of an image of n processes that calls have reached, which have shown t
 pub record Reached (n : ℕ) (image : List ℕ) (t : Totals) : Type 0 where
-  pub fine : image_verdict image ≡ Fine
+  pub fine : image_verdict image ≡ Ok tt
   pub small : Bytes image
   pub size : size_in image ≡ n
   pub invariant : Invariant (state_in image) t
 
 -- what holds where a verdict is fine, and where it is a refusal, holds of it
-pub by_verdict : (P : Verdict → Type 0) (v : Verdict) → (v ≡ Fine → P Fine) → ((r : Refusal) → P (Refused r))
+pub by_verdict : (P : Verdict → Type 0) (v : Verdict) → (v ≡ Ok tt → P (Ok tt)) → ((r : Refusal) → P (Err r))
     → P v
-by_verdict P Fine accepted refused = accepted refl
-by_verdict P (Refused r) accepted refused = refused r
+by_verdict P (Ok _) accepted refused = accepted refl
+by_verdict P (Err r) accepted refused = refused r
 
 -- events that fit a ring are on it
 within_ring : (n : ℕ) (vs : List Event) → all (fitting n) vs ≡ true → on_ring n vs ≡ true
@@ -62,7 +62,7 @@ within_ring n (v ∷ vs) fit =
     )
 
 -- an accepted event of bytes fits a ring
-pub accepted_fitting : (n : ℕ) (event : List ℕ) → Bytes event → event_verdict codes n event ≡ Fine
+pub accepted_fitting : (n : ℕ) (event : List ℕ) → Bytes event → event_verdict codes n event ≡ Ok tt
     → fitting n (event_in event 0) ≡ true
 unfolding event_in
 accepted_fitting n event bytes accepted =
@@ -95,9 +95,9 @@ module _ {n : ℕ} {image : List ℕ} {t : Totals} (before : Reached n image t) 
     step_values = outcome_values (outcome (state_in image) v) ++ traffic_values (traffic (state_in image) v)
 
     -- done, it is one event on the state
-    step_done : event_verdict codes (size_in image) event ≡ Fine
+    step_done : event_verdict codes (size_in image) event ≡ Ok tt
         → Reached n (image_with image (apply (state_in image) v))
-        (plus t (step_shows event (answer Fine step_values)))
+        (plus t (step_shows event (answer (Ok tt) step_values)))
     unfolding event_in
     step_done accepted =
         let st = state_in image in
@@ -117,7 +117,7 @@ module _ {n : ℕ} {image : List ℕ} {t : Totals} (before : Reached n image t) 
         (event_verdict codes (size_in image) event) step_done
         (λ r.
         subst (λ (u : Totals). Reached n image (plus t u))
-        (sym (step_refused event (answer (Refused r) step_values) (number_range r).0)) unchanged))
+        (sym (step_refused event (answer (Err r) step_values) (number_range r).0)) unchanged))
 
   -- ---- a run
 
@@ -132,9 +132,9 @@ module _ {n : ℕ} {image : List ℕ} {t : Totals} (before : Reached n image t) 
         ++ traffic_values (traffic_from (state_in image) vs)
 
     -- done, it is the tape's events on the state
-    run_done : tape_verdict codes (size_in image) tape ≡ Fine
+    run_done : tape_verdict codes (size_in image) tape ≡ Ok tt
         → Reached n (image_with image (after (state_in image) vs))
-        (plus t (run_shows (answer Fine run_values) (splice ledger 0 (run_records image tape))))
+        (plus t (run_shows (answer (Ok tt) run_values) (splice ledger 0 (run_records image tape))))
     unfolding run_records
     run_done accepted =
         let st = state_in image in
@@ -159,7 +159,7 @@ module _ {n : ℕ} {image : List ℕ} {t : Totals} (before : Reached n image t) 
         (or_else test room) (λ accepted. run_done (first_fine test room accepted))
         (λ r.
         subst (λ (u : Totals). Reached n image (plus t u))
-        (sym (run_refused ledger (answer (Refused r) run_values) (number_range r).0)) unchanged))
+        (sym (run_refused ledger (answer (Err r) run_values) (number_range r).0)) unchanged))
 
   -- ---- any call
 

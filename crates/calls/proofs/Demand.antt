@@ -7,6 +7,7 @@
 -- kept from event to event. What is shown is what the rules count (Shown): a run's counts add to those before, since an
 -- event adds to each count by itself (machine/proofs/Tallies), and its messages are read from the ledger's bytes
 -- (Ledger).
+use Rattle.std.specs.Prelude.{Ok}
 use Prim.Native.Nat.{ℕ, suc, ◌≤◌, ◌<◌}
 use mathlib.Core.Path.{◌≡◌, sym, ap, subst, ◌∙◌}
 use mathlib.Core.Bool.{true, false}
@@ -14,11 +15,10 @@ use mathlib.Core.List.{List, [], ◌∷◌}
 use native.Mathlib.Omega.{arith}
 use lib.ListN.{length}
 use lib.Dec.{lit<}
-use Rattle.machine.specs.declared.Verdict.TheVariants.{Fine}
 use Rattle.machine.specs.Bytes.{Bytes, bit}
 use Rattle.machine.specs.Ring.{least, most, image_length}
 use Rattle.machine.specs.Image.{state_in, image_with}
-use Rattle.machine.specs.Fields.{Status, count}
+use Rattle.machine.specs.Fields.{Status, for}
 use Rattle.machine.specs.Fresh.{fresh_envelope, fresh_state}
 use Rattle.machine.specs.Stopped.{stopped}
 use Rattle.machine.specs.Balance.{Totals}
@@ -42,14 +42,14 @@ use Rattle.calls.proofs.Calls.{Reached, call_kept}
 -- ---- the fresh ring
 
 -- no process is marked, for either status
-none_marked : (s : Status) → count fresh_envelope.marked s < 256
+none_marked : (s : Status) → for fresh_envelope.marked s < 256
 none_marked true = lit< tt
 none_marked false = lit< tt
 
 module _ (n home : ℕ) (two : least ≤ n) (few : n ≤ most) (below : home < n) (buffer : List ℕ) (small : Bytes buffer)
     (room : image_length n ≤ length buffer) where
   -- the fresh ring call isn't refused
-  accepted : fresh_verdict n home buffer ≡ Fine
+  accepted : fresh_verdict n home buffer ≡ Ok tt
   accepted = fresh_whole n home buffer (record { least = two; most = few }) below room
 
   pub fresh_reached : Reached n (fresh_image n home buffer) nothing
@@ -80,9 +80,9 @@ calls_kept n (c ∷ calls) image t bytes before =
 
 -- ---- what is promised
 
-module _ (image : List ℕ) (fine : image_verdict image ≡ Fine) where
+module _ (image : List ℕ) (fine : image_verdict image ≡ Ok tt) where
   -- the stopped call is not refused: 1 for yes, 0 for no
-  pub told_flag : stopped_answer image ≡ answer Fine (bit (stopped (state_in image)) ∷ [])
+  pub told_flag : stopped_answer image ≡ answer (Ok tt) (bit (stopped (state_in image)) ∷ [])
   unfolding stopped_answer
   told_flag = rw fine
 

@@ -1,6 +1,7 @@
 -- What calls answer and leave is what the rules make of the events performed: a refused call performs none, answers no
 -- traffic and leaves the image; a step that is done performs its event, a run its tape's, and the next call finds the
 -- state after them (machine/proofs/Runs).
+use Rattle.std.specs.Prelude.{Err, Ok}
 use Prim.Native.Nat.{ℕ, suc}
 use mathlib.Core.Path.{◌≡◌, refl, sym, ap, ap₂, ◌∙◌}
 use mathlib.Core.Bool.{cond}
@@ -11,8 +12,7 @@ use lib.Dec.{eqb}
 use borrow.Author.Tests.{ne_eqb}
 use Rattle.machine.specs.declared.Refusal.{Refusal}
 use Rattle.machine.specs.declared.Traffic.{Traffic}
-use Rattle.machine.specs.declared.Verdict.{Verdict}
-use Rattle.machine.specs.declared.Verdict.TheVariants.{Fine, Refused}
+use Rattle.machine.specs.Verdict.{Verdict}
 use Rattle.machine.specs.Bytes.{Bytes}
 use Rattle.machine.specs.Image.{State, size_in, state_in, image_with}
 use Rattle.machine.specs.Events.{Event, outcome}
@@ -38,12 +38,12 @@ use Rattle.calls.proofs.Calls.{by_verdict, accepted_fitting}
 
 -- from an image events have led to another, with so much traffic
 record Went (image : List ℕ) (vs : List Event) (next : List ℕ) (links : Traffic) : Type 0 where
-  fine : image_verdict next ≡ Fine
+  fine : image_verdict next ≡ Ok tt
   small : Bytes next
   state : state_in next ≡ after (state_in image) vs
   traffic : links ≡ traffic_from (state_in image) vs
 
-module _ (image : List ℕ) (fine : image_verdict image ≡ Fine) (small : Bytes image) where
+module _ (image : List ℕ) (fine : image_verdict image ≡ Ok tt) (small : Bytes image) where
   -- no event
   stayed : Went image [] image no_traffic
   unfolding after traffic_from
@@ -51,24 +51,24 @@ module _ (image : List ℕ) (fine : image_verdict image ≡ Fine) (small : Bytes
 
   -- a call by the verdict of its tests, with its events, its values, and what it tells of them
   module _ (vs : List Event) (values : List ℕ) (tells : Answer → Traffic)
-      (untold : (r : Refusal) → tells (answer (Refused r) values) ≡ no_traffic) where
+      (untold : (r : Refusal) → tells (answer (Err r) values) ≡ no_traffic) where
     -- what is then to be shown
     abbrev Goes : Verdict → Type 0
     Goes w =
         Went image (cond (eqb (answer w values).number 0) vs [])
         (lent w image (image_with image (after (state_in image) vs))) (tells (answer w values))
 
-    goes : (w : Verdict) → (w ≡ Fine → Continues image (after (state_in image) vs))
-        → tells (answer Fine values) ≡ traffic_from (state_in image) vs
+    goes : (w : Verdict) → (w ≡ Ok tt → Continues image (after (state_in image) vs))
+        → tells (answer (Ok tt) values) ≡ traffic_from (state_in image) vs
         → Goes w
     goes w continues told = by_verdict Goes w done refused
       where
-        done : w ≡ Fine → Goes Fine
+        done : w ≡ Ok tt → Goes (Ok tt)
         done accepted =
             let next = continues accepted in
             record { fine = next.fine; small = next.small; state = next.state; traffic = told }
 
-        refused : (r : Refusal) → Goes (Refused r)
+        refused : (r : Refusal) → Goes (Err r)
         refused r = rw (ne_eqb (number_of r) 0 (λ same. omega (arith, (number_range r).0)), untold r) stayed
 
   call_went : (c : Call) → Bytes (given c)

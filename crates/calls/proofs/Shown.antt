@@ -1,6 +1,7 @@
 -- What a call shows is what the rules count of its events: field by field, the numbers are the same by definition or
 -- by the laws of a run's counts, and the messages by the ledger's codes. A refused call shows nothing. And what calls
 -- show one after the other is added in any grouping.
+use Rattle.std.specs.Prelude.{Ok}
 use Prim.Native.Nat.{ℕ, ◌≤◌}
 use mathlib.Core.Path.{◌≡◌, refl, sym, ap, ap₂}
 use mathlib.Core.Bool.{Bool, true, cond}
@@ -10,7 +11,6 @@ use lib.ListN.{length, get_or}
 use borrow.Author.Tests.{ne_eqb}
 use Rattle.machine.specs.declared.Outcome.{Outcome}
 use Rattle.machine.specs.declared.Traffic.{Traffic}
-use Rattle.machine.specs.declared.Verdict.TheVariants.{Fine}
 use Rattle.machine.specs.Bytes.{splice}
 use Rattle.machine.specs.Lists.{all}
 use Rattle.machine.specs.Image.{State}
@@ -71,7 +71,8 @@ run_refused ledger a refused = adds_nothing a _ refused
 -- ---- a step that is done, whatever its traffic
 
 pub step_shows_lem : (event : List ℕ) (o : Outcome) (links : Traffic) (t : Totals)
-    → added (get_or event 1 0) o t ≡ plus t (step_shows event (answer Fine (outcome_values o ++ traffic_values links)))
+    → added (get_or event 1 0) o t
+    ≡ plus t (step_shows event (answer (Ok tt) (outcome_values o ++ traffic_values links)))
 unfolding counted
 step_shows_lem event o links t =
     ap₂ (λ (filled taken : List ℕ). totals_of (counted (get_or event 1 0) o (counts_of t)) (t.filled ++ filled)
@@ -85,7 +86,7 @@ module _ (ledger : List ℕ) (st : State) (vs : List Event) (range : InRange st)
   pub run_shows_lem : (links : Traffic) (t : Totals)
       → totals_of (counts_from (counts_of t) st vs) (t.filled ++ filled_from st vs) (t.taken ++ taken_from st vs)
       ≡ plus t
-      (run_shows (answer Fine (count_values (counts_from no_counts st vs) ++ traffic_values links))
+      (run_shows (answer (Ok tt) (count_values (counts_from no_counts st vs) ++ traffic_values links))
       (splice ledger 0 (ledger_from 0 st vs)))
   run_shows_lem links t =
       same_totals _ _ (puts_add vs st (counts_of t)) (gets_add vs st (counts_of t)) (sent_add vs st (counts_of t))

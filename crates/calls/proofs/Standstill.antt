@@ -1,6 +1,7 @@
 -- The stopped call is never refused after a list of calls, since the image is accepted, and its yes is the rule's: each
 -- of events 2 to 7 is idle wherever it is tried, and a step with it answers just that outcome, with no traffic. A host
 -- with room for the result reads the call's own answer.
+use Rattle.std.specs.Prelude.{Ok}
 use Prim.Native.Nat.{ℕ, ◌≤◌, ◌<◌}
 use mathlib.Core.Path.{◌≡◌, refl, sym, ap, ap₂, ◌∙◌}
 use mathlib.Core.Bool.{Bool, true, false}
@@ -10,7 +11,6 @@ use native.Mathlib.Omega.{arith}
 use lib.ListN.{length}
 use Rattle.machine.specs.declared.Outcome.{Outcome}
 use Rattle.machine.specs.declared.Outcome.TheVariants.{Idle, Moved, Fill, Take, Sent, Got}
-use Rattle.machine.specs.declared.Verdict.TheVariants.{Fine}
 use Rattle.machine.specs.Bytes.{bit}
 use Rattle.machine.specs.Image.{size_in, state_in}
 use Rattle.machine.specs.Events.{Event}
@@ -44,7 +44,7 @@ idle_only Got zero = absurd (omega arith)
 
 -- ---- an accepted image of n processes; the code's bounds are worked out, so that other bounds fail by a code
 
-module _ (n : ℕ) (image : List ℕ) (fine : image_verdict image ≡ Fine) (size : size_in image ≡ n) where
+module _ (n : ℕ) (image : List ℕ) (fine : image_verdict image ≡ Ok tt) (size : size_in image ≡ n) where
   all_idle : stopped (state_in image) ≡ true → AllIdle n image
   all_idle halts i below code low high =
       let within_ring : i < length (state_in image).processes = omega (arith, length_state image, size) in
@@ -52,7 +52,7 @@ module _ (n : ℕ) (image : List ℕ) (fine : image_verdict image ≡ Fine) (siz
       let v : Event = record { process = i; code = code; message = 0 } in
       let still = idle_none (state_in image) v (ap is_idle idle) in
       step_answers image fine i code (omega (arith, size)) (omega arith)
-      ∙ ap₂ (λ o links. answer Fine (outcome_values o ++ traffic_values links)) idle still
+      ∙ ap₂ (λ o links. answer (Ok tt) (outcome_values o ++ traffic_values links)) idle still
 
   idle_all : AllIdle n image → stopped (state_in image) ≡ true
   idle_all each =
@@ -71,7 +71,7 @@ module _ (n : ℕ) (image : List ℕ) (fine : image_verdict image ≡ Fine) (siz
         means_yes = λ each. told_flag image fine ∙ rw (idle_all each);
       }
     where
-      by_flag : (b : Bool) → stopped_answer image ≡ answer Fine (bit b ∷ []) → SaysStopped image ⊎ SaysMoving image
+      by_flag : (b : Bool) → stopped_answer image ≡ answer (Ok tt) (bit b ∷ []) → SaysStopped image ⊎ SaysMoving image
       by_flag true is = inl is
       by_flag false is = inr is
 

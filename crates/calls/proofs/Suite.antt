@@ -3,6 +3,7 @@
 -- what is read back shows the same: the values fit their words, since messages have 32 bits, a run has at most
 -- 4,128,768 events, and an event puts at most two requests on a link. With a shorter slice a call leaves the image, and
 -- the number that it returns isn't 0, so that it shows nothing.
+use Rattle.std.specs.Prelude.{Err, Ok}
 use Prim.Native.Nat.{ℕ, suc, ◌-◌, ◌*◌, ◌^◌, ◌≤◌, ◌<◌}
 use mathlib.Core.Path.{◌≡◌, refl, sym, ap, ap₂, subst, ◌∙◌}
 use mathlib.Core.List.{List, [], ◌∷◌, ◌++◌, map}
@@ -14,8 +15,7 @@ use Rattle.machine.specs.declared.Counts.{Counts}
 use Rattle.machine.specs.declared.Outcome.{Outcome}
 use Rattle.machine.specs.declared.Outcome.TheVariants.{Idle, Moved, Fill, Take, Sent, Got}
 use Rattle.machine.specs.declared.Traffic.{Traffic}
-use Rattle.machine.specs.declared.Verdict.{Verdict}
-use Rattle.machine.specs.declared.Verdict.TheVariants.{Fine, Refused}
+use Rattle.machine.specs.Verdict.{Verdict}
 use Rattle.machine.specs.Bytes.{Bytes, bit}
 use Rattle.machine.specs.Lists.{tabulate}
 use Rattle.machine.specs.Ring.{least, most, image_length}
@@ -62,24 +62,24 @@ module _ (values : List ℕ) (few : length values ≤ 10) (result : List ℕ) wh
   padded = values ++ replicate (10 - length values) 0
 
   -- done, it has the values, and 0 after them
-  done_read : 80 ≤ length result → FitWords values → host_answer (answer Fine values) result ≡ answer Fine padded
+  done_read : 80 ≤ length result → FitWords values → host_answer (answer (Ok tt) values) result ≡ answer (Ok tt) padded
   done_read room fit =
       let tells = done_told result room values refl refl in
       sym (ap₂ answer_read tells.0 tells.1)
-      ∙ ap (λ (l : List ℕ). answer Fine l) (values_read result values few fit)
+      ∙ ap (λ (l : List ℕ). answer (Ok tt) l) (values_read result values few fit)
 
   -- what is shown of an answer: nothing if it is refused, and nothing of the words after its values
   module _ (shows : Answer → Totals) (refused : (a : Answer) → 1 ≤ a.number → shows a ≡ nothing)
-      (unread : shows (answer Fine padded) ≡ shows (answer Fine values)) where
+      (unread : shows (answer (Ok tt) padded) ≡ shows (answer (Ok tt) values)) where
     -- with at least 80 bytes, what the call itself shows
-    long_shows : 80 ≤ length result → (v : Verdict) → (v ≡ Fine → FitWords values)
+    long_shows : 80 ≤ length result → (v : Verdict) → (v ≡ Ok tt → FitWords values)
         → shows (host_answer (answer v values) result) ≡ shows (answer v values)
-    long_shows room Fine fit = ap shows (done_read room (fit refl)) ∙ unread
-    long_shows room (Refused r) fit =
+    long_shows room (Ok _) fit = ap shows (done_read room (fit refl)) ∙ unread
+    long_shows room (Err r) fit =
         let high = (number_range r).0 in
         let tells = refused_told result room {n = number_of r} r refl refl refl in
-        refused (host_answer (answer (Refused r) values) result) (omega (arith, tells.0))
-        ∙ sym (refused (answer (Refused r) values) high)
+        refused (host_answer (answer (Err r) values) result) (omega (arith, tells.0))
+        ∙ sym (refused (answer (Err r) values) high)
 
     -- with fewer nothing
     short_shows : length result < 80 → (v : Verdict) → shows (host_answer (answer v values) result) ≡ nothing
@@ -117,7 +117,7 @@ traffic_fits : (links : Traffic) → links.requests ≤ 2 * 4128768 → links.de
 traffic_fits links requests departures = one (count_fits requests) (one (count_fits departures) none)
 
 module _ (image : List ℕ) (small : Bytes image) where
-  step_fits : (event : List ℕ) → Bytes event → step_verdict image event ≡ Fine
+  step_fits : (event : List ℕ) → Bytes event → step_verdict image event ≡ Ok tt
       → FitWords
       (outcome_values (outcome (state_in image) (event_in event 0))
       ++ traffic_values (traffic (state_in image) (event_in event 0)))
@@ -131,7 +131,7 @@ module _ (image : List ℕ) (small : Bytes image) where
       one (outcome_fits (outcome st v)) (one (message_fits message)
       (traffic_fits (traffic st v) (omega (arith, requests_few st v)) (omega (arith, departures_few st v))))
 
-  run_fits : (tape ledger : List ℕ) → run_verdict image tape ledger ≡ Fine
+  run_fits : (tape ledger : List ℕ) → run_verdict image tape ledger ≡ Ok tt
       → FitWords
       (count_values (counts_from no_counts (state_in image) (run_events tape))
       ++ traffic_values (traffic_from (state_in image) (run_events tape)))
@@ -152,8 +152,8 @@ module _ {n : ℕ} {image : List ℕ} {t : Totals} (before : Reached n image t) 
   -- a call that shows so much by its own answer, and leaves an image
   kept : (result values : List ℕ) (few : length values ≤ 10) (shows : Answer → Totals)
       → ((a : Answer) → 1 ≤ a.number → shows a ≡ nothing)
-      → shows (answer Fine (padded values few result)) ≡ shows (answer Fine values)
-      → (v : Verdict) → (v ≡ Fine → FitWords values)
+      → shows (answer (Ok tt) (padded values few result)) ≡ shows (answer (Ok tt) values)
+      → (v : Verdict) → (v ≡ Ok tt → FitWords values)
       → (after : List ℕ) → (80 ≤ length result → Reached n after (plus t (shows (answer v values))))
       → Reached n (lent_with result image after) (plus t (shows (host_answer (answer v values) result)))
   kept result values few shows refused unread v fits after done = go (lt_or_ge (length result) 80)
@@ -189,7 +189,7 @@ module _ {n : ℕ} {image : List ℕ} {t : Totals} (before : Reached n image t) 
       rw (← lent_as_left result room ledger {done = run_ledger image tape ledger} refl)
       (call_kept before (Run tape ledger) bytes))
   host_call_kept Stopped result bytes =
-      kept result [] (lit≤ tt) (λ a. nothing) (λ a refused. refl) refl Fine (λ fine. none) image
+      kept result [] (lit≤ tt) (λ a. nothing) (λ a refused. refl) refl (Ok tt) (λ fine. none) image
       (λ room. unchanged before)
 
 host_calls_kept : (n : ℕ) (calls : List HostCall) (image : List ℕ) (t : Totals)
@@ -206,7 +206,7 @@ host_calls_kept n (c ∷ calls) image t bytes before =
 -- ---- the demand
 
 -- what a host is told of an accepted image
-module _ (image : List ℕ) (fine : image_verdict image ≡ Fine) where
+module _ (image : List ℕ) (fine : image_verdict image ≡ Ok tt) where
   -- 1 for yes, 0 for no
   abbrev flag : ℕ
   flag = bit (stopped (state_in image))
@@ -228,11 +228,11 @@ module _ (image : List ℕ) (fine : image_verdict image ≡ Fine) where
     where
       go : (length result < 80) ⊎ (80 ≤ length result) → SaysStopped image
       go (inl short) =
-          let ten = (short_told result short Fine (flag ∷ []) refl).0 in
+          let ten = (short_told result short (Ok tt) (flag ∷ []) refl).0 in
           absurd (omega (arith, ten, rw (told_flag image fine) at zero))
       go (inr room) =
           told_flag image fine
-          ∙ ap (λ (m : ℕ). answer Fine (m ∷ [])) (sym (word_read result room).1 ∙ reads)
+          ∙ ap (λ (m : ℕ). answer (Ok tt) (m ∷ [])) (sym (word_read result room).1 ∙ reads)
 
 module _ (n home : ℕ) (two : least ≤ n) (few : n ≤ most) (below : home < n) (buffer : List ℕ) (small : Bytes buffer)
     (room : image_length n ≤ length buffer) (calls : List HostCall) (bytes : GivenBytes (map (λ c. c.call) calls)) where

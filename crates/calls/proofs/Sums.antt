@@ -1,6 +1,7 @@
 -- A run's totals are its steps' sums. An event of an accepted tape has process, code and message as an accepted event
 -- has them, so a step with its eight bytes is done and does what the rules do with that event; the next step then finds
 -- the state that the rules have (machine/proofs/Runs).
+use Rattle.std.specs.Prelude.{Ok}
 use Prim.Native.Nat.{ℕ, zero, suc, ◌+◌, ◌*◌, ◌/◌, ◌<◌}
 use mathlib.Core.Path.{◌≡◌, refl, sym, ap, ap₂, subst, ◌∙◌}
 use mathlib.Core.Bool.{Bool, true, false, ◌||◌}
@@ -9,7 +10,6 @@ use lib.ListN.{length}
 use lib.Dec.{eqb}
 use borrow.Author.Tests.{lt-ltb, eqb-false}
 use Rattle.machine.specs.declared.Refusal.TheVariants as refusal
-use Rattle.machine.specs.declared.Verdict.TheVariants.{Fine}
 use Rattle.machine.specs.Bytes.{Bytes, bytes, all_zero, zeros}
 use Rattle.machine.specs.Lists.{tabulate, all}
 use Rattle.machine.specs.Image.{State, size_in, state_in, image_with}
@@ -51,17 +51,17 @@ event_taken n v below known silent =
 
 -- ---- one step
 
-module _ (image : List ℕ) (v : Event) (fine : image_verdict image ≡ Fine) (fits : fitting (size_in image) v ≡ true)
+module _ (image : List ℕ) (v : Event) (fine : image_verdict image ≡ Ok tt) (fits : fitting (size_in image) v ≡ true)
     (here : taken (size_in image) v ≡ true) where
   own : event_in (event_bytes v) 0 ≡ v
   own = bytes_read v (fitting_message (size_in image) v fits)
 
-  accepted : step_verdict image (event_bytes v) ≡ Fine
+  accepted : step_verdict image (event_bytes v) ≡ Ok tt
   unfolding step_verdict event_verdict bytes
   accepted = rw (fine, here)
 
   answered : step_answer image (event_bytes v)
-      ≡ answer Fine (outcome_values (outcome (state_in image) v) ++ traffic_values (traffic (state_in image) v))
+      ≡ answer (Ok tt) (outcome_values (outcome (state_in image) v) ++ traffic_values (traffic (state_in image) v))
   unfolding step_answer
   answered = rw (accepted, own)
 
@@ -71,7 +71,7 @@ module _ (image : List ℕ) (v : Event) (fine : image_verdict image ≡ Fine) (f
 
 -- ---- a list of steps
 
-steps_do : (vs : List Event) (image : List ℕ) → image_verdict image ≡ Fine → Bytes image
+steps_do : (vs : List Event) (image : List ℕ) → image_verdict image ≡ Ok tt → Bytes image
     → all (fitting (size_in image)) vs ≡ true → all (taken (size_in image)) vs ≡ true
     → SumOfSteps image vs (traffic_from (state_in image) vs) (image_with image (after (state_in image) vs))
 unfolding all traffic_from traffic_by_all image_after_all
@@ -108,7 +108,7 @@ steps_do (v ∷ vs) image fine small fit good =
 
 module _ (n : ℕ) (list : List ℕ) where
   -- k events of a list from event i on, none of which is refused
-  row_taken : (i k : ℕ) → first (λ j. unless (event_fits codes n list (8 * j)) (refusal.Event j)) i k ≡ Fine
+  row_taken : (i k : ℕ) → first (λ j. unless (event_fits codes n list (8 * j)) (refusal.Event j)) i k ≡ Ok tt
       → all (taken n) (tabulate (λ j. event_in list (8 * j)) i k) ≡ true
   unfolding first tabulate all event_in
   row_taken i zero e = refl
@@ -120,7 +120,7 @@ module _ (n : ℕ) (list : List ℕ) where
       rw (here, row_taken (i + 1) k (second_fine (unless (event_fits codes n list at) (refusal.Event i)) _ e))
 
 -- the list that a reader gives is accepted too
-events_taken : (n : ℕ) (tape : List ℕ) → tape_verdict codes n tape ≡ Fine → all (taken n) (run_events tape) ≡ true
+events_taken : (n : ℕ) (tape : List ℕ) → tape_verdict codes n tape ≡ Ok tt → all (taken n) (run_events tape) ≡ true
 unfolding run_events events_in list_verdict
 events_taken n tape fine =
     row_taken n (list_of tape) 0 (length (list_of tape) / 8)

@@ -1,7 +1,6 @@
 -- The events that a list of calls performs, and that its answers and its image are the rules' own of them: what is
 -- proved of every list of events is so known of calls.
-use Rattle.std.specs.Prelude.{ℕ, ◌≡◌, cond, List, [], ◌∷◌, ◌++◌, eqb}
-use Rattle.machine.specs.declared.Verdict.TheVariants.{Fine}
+use Rattle.std.specs.Prelude.{ℕ, ◌≡◌, cond, List, [], ◌∷◌, ◌++◌, eqb, Ok}
 use Rattle.machine.specs.Bytes.{Bytes}
 use Rattle.machine.specs.Image.{state_in}
 use Rattle.machine.specs.Events.{Event}
@@ -38,5 +37,5 @@ pub record AsPerformed (image : List ℕ) (calls : List Call) : Type 0 where
 -- from every accepted image, for every list of calls that are given bytes, refused ones included
 abbrev pub CallsPerform : Type 0
 CallsPerform =
-    (image : List ℕ) → image_verdict image ≡ Fine → Bytes image → (calls : List Call) → GivenBytes calls
+    (image : List ℕ) → image_verdict image ≡ Ok tt → Bytes image → (calls : List Call) → GivenBytes calls
     → AsPerformed image calls

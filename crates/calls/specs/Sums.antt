@@ -1,8 +1,7 @@
 -- Link traffic over calls: document 02, A.4. What answers tell of it, and what a run's totals are: the sums of the
 -- numbers that steps with the run's events answer, one after the other from the same image.
-use Rattle.std.specs.Prelude.{ℕ, ◌≡◌, List, [], ◌∷◌, map}
+use Rattle.std.specs.Prelude.{ℕ, ◌≡◌, List, [], ◌∷◌, map, Ok}
 use Rattle.machine.specs.declared.Traffic.{Traffic}
-use Rattle.machine.specs.declared.Verdict.TheVariants.{Fine}
 use Rattle.machine.specs.Bytes.{Bytes}
 use Rattle.machine.specs.Events.{Event}
 use Rattle.machine.specs.Tape.{event_bytes}
@@ -55,5 +54,5 @@ pub record SumOfSteps (image : List ℕ) (vs : List Event) (total : Traffic) (le
 -- every run that is done, whatever its ledger buffer holds
 abbrev pub TotalsAreSums : Type 0
 TotalsAreSums =
-    (image tape ledger : List ℕ) → Bytes image → Bytes tape → run_verdict image tape ledger ≡ Fine
+    (image tape ledger : List ℕ) → Bytes image → Bytes tape → run_verdict image tape ledger ≡ Ok tt
     → SumOfSteps image (run_events tape) (run_traffic (run_answer image tape ledger)) (run_image image tape ledger)

@@ -8,7 +8,6 @@ use mathlib.Core.Path.{◌≡◌, refl, sym, ap, ◌∙◌}
 use native.Mathlib.Omega.{arith}
 use native.Mathlib.Nat.{mod-eq_of_lt}
 use lib.Bits.{bit_and}
-use lib.Dec.{lit<}
 use borrow.Author.Tests.{eq-eqb, ne_eqb}
 use Rattle.machine.specs.declared.Outcome.TheVariants.{Moved}
 use Rattle.machine.specs.Fields.{for}
@@ -18,7 +17,8 @@ use Rattle.record.specs.declared.header.Header.{Header}
 use Rattle.record.specs.Words.{stage_of, shown_process, shown_envelope, Tidy}
 use Rattle.reaction.specs.declared.Reaction.{Reaction}
 use Rattle.reaction.specs.declared.Reach.TheVariants.{Own}
-use Rattle.reaction.specs.Reaction.{Ruled, shown, Fits, Begun, Counted, Makes}
+use Rattle.reaction.specs.Reaction.{Ruled, Makes}
+use Rattle.reaction.specs.Ready.{Ready}
 use Rattle.event.specs.declared.Event.{Event}
 use Rattle.event.specs.declared.Row.{Row}
 use Rattle.event.specs.Rows.{started_by, row_of}
@@ -62,19 +62,12 @@ module _ {v : Event} {header : Header} {own : Record} {row : Row} (known : Appli
   begin =
       record { own = record { word = word }; header = header; reach = Own; started = row.started; outcome = Moved }
 
-  begin_fits : Fits begin
-  begin_fits = record { own = stepped.tidy; header = known.header_tidy; asks = lit< tt }
-
-  pub begun : {r : Reaction} → r ≡ begin → Begun r
-  begun is = rw is (record { fits = begin_fits; here = refl })
-
-  pub still_counted : {r : Reaction} → r ≡ begin → Counted r
-  still_counted is =
-      rw is
-      (record {
+  pub still_ready : Ready (shown_envelope header) (shown_process word)
+  still_ready =
+      record {
         room = known.ready.room;
         counted = λ s marked. known.ready.counted s (ap (λ m. for m s) (sym stepped.marks) ∙ marked);
-      })
+      }
 
   -- ---- what came of it
 
@@ -84,26 +77,24 @@ module _ {v : Event} {header : Header} {own : Record} {row : Row} (known : Appli
   abbrev Answers : Reaction → Type 0
   Answers r = Reacts ruled header (started_by v.code) r
 
-  pub after_put : {r t : Reaction} → r ≡ begin → v.code ≡ 7 → Makes (put_at (stage_of r.own.word)) r t → Answers t
-  after_put is seven made =
+  pub after_put : {t : Reaction} → v.code ≡ 7 → Makes (put_at (stage_of word)) begin t → Answers t
+  after_put seven made =
       record {
-        shows =
-            made.shows ∙ ap (λ x. put_at (stage_of x.own.word) (shown x)) is
-            ∙ (rw (eq-eqb v.code 7 seven) at stepped.makes);
+        shows = made.shows ∙ (rw (eq-eqb v.code 7 seven) at stepped.makes);
         fits = made.fits;
-        size = made.size ∙ ap (λ x. x.header.word % 256) is;
-        counts = made.started ∙ ap (λ x. x.started) is ∙ counts;
+        size = made.size;
+        counts = made.started ∙ counts;
       }
 
   pub after_work : {t : Reaction} → v.code ≡ 2
-      → Reacts (worked (shown_envelope header) (shown_process word)) header 0 t → Answers t
+      → Reacts (worked (shown_envelope header) (shown_process word)) header row.started t → Answers t
   after_work two made =
       let not_seven = ne_eqb v.code 7 (λ is. omega arith) in
       record {
         shows = made.shows ∙ (rw (not_seven, eq-eqb v.code 2 two) at stepped.makes);
         fits = made.fits;
         size = made.size;
-        counts = made.counts ∙ rw two;
+        counts = made.counts ∙ counts;
       }
 
   pub after_row : {r : Reaction} → r ≡ begin → (v.code ≡ 7 → ⊥) → (v.code ≡ 2 → ⊥) → Answers r
@@ -111,7 +102,7 @@ module _ {v : Event} {header : Header} {own : Record} {row : Row} (known : Appli
       rw is
       (record {
         shows = rw (ne_eqb v.code 7 not_seven, ne_eqb v.code 2 not_two) at stepped.makes;
-        fits = begin_fits;
+        fits = record { own = stepped.tidy; header = known.header_tidy };
         size = refl;
         counts = counts;
       })

@@ -5,7 +5,7 @@ use mathlib.Core.Path.{◌≡◌, refl, ap₂, ◌∙◌}
 use mathlib.Core.Bool.{true, false, cond}
 use native.Mathlib.Omega.{arith}
 use lib.Bits.{bit_and, bit_or, or_zero_r}
-use lib.Dec.{eqb, lit<}
+use lib.Dec.{eqb}
 use Rattle.machine.specs.declared.Outcome.{Outcome}
 use Rattle.machine.specs.declared.Outcome.TheVariants.{Fill, Take}
 use Rattle.machine.specs.Bytes.{bit}
@@ -22,7 +22,6 @@ use Rattle.record.specs.Words.{stage_of, flags_of, requests_of, spare_of, note_o
 use Rattle.record.specs.Words.{TidyHeader}
 use Rattle.record.proofs.Fields.{Fields, shows, is_tidy, fields_of, all_ones, set_in, off_in, without_note}
 use Rattle.record.proofs.Headers.{shows_envelope, is_tidy_header}
-use Rattle.reaction.specs.declared.Reaction.{Reaction}
 use Rattle.reaction.specs.declared.Reach.TheVariants.{Own}
 use Rattle.event.specs.Applied.{worked, Reacts}
 
@@ -61,13 +60,13 @@ module _ (header : Header) (w : ℕ) (tidy : Tidy w) (fine : TidyHeader header) 
   chosen true is = rw is
   chosen false is = rw is
 
-  pub works : {own : Record} {h : Header} {r : Reaction} (s : Status) → eqb (stage_of w) 4 ≡ s
+  pub works : {own : Record} {h : Header} {started : ℕ} (s : Status) → eqb (stage_of w) 4 ≡ s
       → own.word ≡ cond s (w % 4294967296) w
       → h.word ≡ cond s (bit_or hw 256) (bit_and hw 18446744073709551359)
       → h.message ≡ cond s (note_of w) 0
-      → r ≡ record { own = own; header = h; reach = Own; started = 0; outcome = outcome s }
-      → Reacts (worked (shown_envelope header) (shown_process w)) header 0 r
-  works {own} {h} s is word_is header_is message_is made =
+      → Reacts (worked (shown_envelope header) (shown_process w)) header started
+      (record { own = own; header = h; reach = Own; started = started; outcome = outcome s })
+  works {own} {h} s is word_is header_is message_is =
       let own_in_lem : Fields own.word (stage_of w) (flags_of w) (requests_of w) 0 (cond s 0 (note_of w)) =
       rw word_is (left s) in
       let header_in : Fields h.word (stage_of hw) (bit s) (requests_of hw) (spare_of hw) (note_of hw) =
@@ -75,8 +74,7 @@ module _ (header : Header) (w : ℕ) (tidy : Tidy w) (fine : TidyHeader header) 
       let envelope : shown_envelope h ≡ holding s (cond s (note_of w) 0) (shown_envelope header) =
       shows_envelope {h = h} header_in ∙ rw (bit_is s (bit s) refl, message_is) in
       let small = choice (λ n. n < 2 ^ 32) s in
-      rw made
-      (record {
+      record {
         shows = ap₂ (λ p e. becomes (outcome s) e p) (shows own_in_lem) envelope ∙ chosen s is;
         fits =
             record {
@@ -84,8 +82,7 @@ module _ (header : Header) (w : ℕ) (tidy : Tidy w) (fine : TidyHeader header) 
               header =
                   is_tidy_header header_in (bit_le s) fine.markers fine.counts
                   (rw message_is (small (note_of w) 0 tidy.note (omega arith)));
-              asks = lit< tt;
             };
         size = header_in.stage_is;
         counts = refl;
-      })
+      }

@@ -10,7 +10,8 @@ use Rattle.record.specs.declared.process.Record.{Record}
 use Rattle.record.specs.declared.header.Header.{Header}
 use Rattle.record.specs.Words.{stage_of, shown_process, shown_envelope, Tidy, TidyHeader}
 use Rattle.reaction.specs.declared.Reaction.{Reaction}
-use Rattle.reaction.specs.Reaction.{Ruled, shown, Fits, Ready}
+use Rattle.reaction.specs.Reaction.{Ruled, shown, Fits}
+use Rattle.reaction.specs.Ready.{Ready}
 use Rattle.event.specs.declared.Event.{Event}
 
 -- ---- main's work, at the stage that comes after it

@@ -13,15 +13,18 @@ ghost use Rattle.event.specs.Parsed.{event_of, ruled};
 ghost use Rattle.event.specs.Rows.{codes_at, need_of, started_by, row_of, Possible};
 ghost use Rattle.event.specs.Applied.{worked, Applicable, Reacts};
 
-use little_endian::{eight_at, number_at, put_four, put_number, wide, wide64};
+use little_endian::Word;
 use machine::{Outcome, Refusal, Verdict};
+use reaction::Reaction;
+use reaction::begun::{Begun, Counted};
 use reaction::put::put_at;
-use reaction::{Reach, Reaction};
 use record::header::Header;
 use record::process;
 use record::process::Record;
+use span::put;
 
-// At which process, its code, and the message of code 0.
+// At which process, its code, and the message of code 0. The code is a number and no enum, since `parse` answers for
+// every byte, and tables are read by it.
 #[derive(Clone, Copy)]
 pub struct Event {
     pub process: usize,
@@ -43,7 +46,8 @@ const STARTS: u64 = STARTS_PUT + STARTS_GET;
 
 const NONE: u64 = 0x1000_0000;
 
-// The codes that a stage makes possible. One value an arm and a last entry of its own, so that they lie in one table.
+// The codes that a stage makes possible. By number, as stages and codes are in a record and an event. One value an
+// arm and a last entry of its own, so that they lie in one table.
 #[tactic(auto, unfolding(crate::specs::Rows::codes_at))]
 fn codes_at(stage: u64) -> u64
     requires { stage < 16 }
@@ -118,6 +122,13 @@ const HEARS_EMPTY: u64 = LINK_EMPTY + 2 * process::ASKED + process::NEWS;
 
 const HEARD_EMPTY: u64 = 2 * process::ASKED + process::NEWS;
 
+// A row that changes nothing.
+const SAME: Row = Row {
+    off: 0,
+    on: 0,
+    started: 0,
+};
+
 // A row for each code: one match that hands back all of it, since two matches over one value become a jump.
 #[tactic(auto, unfolding(crate::specs::Rows::row_of))]
 fn row_of(code: u8) -> Row
@@ -131,131 +142,117 @@ fn row_of(code: u8) -> Row
             started: PUTS,
         },
         1 => Row {
-            off: 0,
             on: 6,
             started: GETS,
+            ..SAME
         },
-        2 => Row {
-            off: 0,
-            on: 1,
-            started: 0,
-        },
+        2 => Row { on: 1, ..SAME },
         3 => Row {
             off: process::NEWS,
             on: SIGNALLED,
-            started: 0,
+            ..SAME
         },
         4 => Row {
             off: FLAGS,
             on: RECEIVED,
-            started: 0,
+            ..SAME
         },
         5 => Row {
             off: HEARS_FULL,
             on: HEARD_FULL,
-            started: 0,
+            ..SAME
         },
         6 => Row {
             off: HEARS_EMPTY,
             on: HEARD_EMPTY,
-            started: 0,
+            ..SAME
         },
         7 => Row {
             off: process::NEWS,
-            on: 0,
-            started: 0,
+            ..SAME
         },
-        _ => Row {
-            off: 0,
-            on: 0,
-            started: 0,
-        },
-    }
-}
-
-// The record and the header become these, and no neighbour is reached.
-fn becomes(outcome: Outcome, header: Header, own: Record, started: u64) -> Reaction
-    ensures { result
-        ≡ record { own = own; header = header; reach = Reach.Own; started = started; outcome = outcome } }
-{
-    Reaction {
-        own: own,
-        header: header,
-        reach: Reach::Own,
-        started: started,
-        outcome: outcome,
+        _ => SAME,
     }
 }
 
 // Code 2, main works, its stage already the next: it fills the envelope with the note, or takes the message out.
-fn work(header: Header, own: Record) -> Reaction
-    requires { Tidy own.word × TidyHeader header }
-    ensures { Reacts (worked (shown_envelope header) (shown_process own.word)) header 0 result }
+fn work(step: Begun) -> Reaction
+    ensures { Reacts (worked (shown_envelope step.header) (shown_process step.own.word)) step.header
+        step.started result }
 {
+    let Begun { own, header, .. } = step;
     if own.stage() == 4 {
         let note = own.note();
-        let left = Record {
-            word: own.word % 0x1_0000_0000,
+        return Reaction {
+            own: Record {
+                word: own.word % 0x1_0000_0000,
+            },
+            header: header.filled(note),
+            outcome: Outcome::Fill(note as u32),
+            ..step.so_far()
         };
-        return becomes(Outcome::Fill(note as u32), header.filled(note), left, 0);
     }
-    let message = header.message as u32;
-    becomes(Outcome::Take(message), header.emptied(), own, 0)
+    Reaction {
+        header: header.emptied(),
+        outcome: Outcome::Take(header.message as u32),
+        ..step.so_far()
+    }
 }
 
 impl Event {
     // How many codes there are.
     pub const CODES: u8 = 8;
 
-    // Internal: whether an event for n processes stands in the eight bytes from `at` on. They are tested as one number:
-    // beside the process nothing counts where code and zeros are 0, since any message may follow, and else all does.
-    // Four instructions less for an event of a run than field by field.
-    pub fn fits(bytes: &[u8], at: usize, n: usize, codes: u8) -> bool
-        requires { at + 8 ≤ length bytes.now }
-        ensures { result ≡ event_fits codes n bytes.now at }
+    // Internal: whether an event for n processes stands in a slot. Its bytes are tested as one number: beside the
+    // process nothing counts where code and zeros are 0, since any message may follow, and else all does. Four
+    // instructions less for an event of a run than field by field.
+    pub fn fits(slot: &[u8; 8], n: usize, codes: u8) -> bool
+        ensures { result ≡ event_fits codes n slot.now 0 }
     {
-        let word = eight_at(bytes, at);
+        let word = u64::from_le_bytes(*slot);
         let beside = if word % 4294967296 < 256 { 0 } else { word };
-        (word % 256 < n as u64) & (beside < 256 * wide64(codes))
+        (word % 256 < n as u64) & (beside < 256 * u64::from(codes))
     }
 
-    // Internal: the event whose fields stand in the eight bytes from `at` on.
-    pub fn parse(bytes: &[u8], at: usize) -> Event
-        requires { at + 8 ≤ length bytes.now }
-        ensures { result ≡ event_of (event_in bytes.now at) }
+    // Internal: the event whose fields stand in a slot.
+    #[tactic(auto, using(crate::proofs::Bytes::event_read))]
+    pub fn parse(slot: &[u8; 8]) -> Event
+        ensures { result ≡ event_of (event_in slot.now 0) }
     {
         Event {
-            process: wide(bytes[at]),
-            code: bytes[at + 1],
-            message: number_at(bytes, at + 4),
+            process: usize::from(slot[0]),
+            code: slot[1],
+            message: u32::read_at(slot, 4),
         }
     }
 
-    // Internal: the event's eight bytes, written from `at` on.
+    // Internal: the event's eight bytes, written from `at` on: into a slot that the caller cuts out, 1 instruction more
+    // of the 46 of a drawn event; handed back as `[u8; 8]`, 3.
     pub fn put(self, bytes: &mut [u8], at: usize)
         requires { (self.process < 256) × (at + 8 ≤ length bytes.old) }
         ensures { bytes.new ≡ splice bytes.old at (event_bytes (ruled self)) }
     {
-        put_four(bytes, at, self.process as u8, self.code, 0, 0);
-        put_number(bytes, at + 4, self.message);
+        put(bytes, at, &[self.process as u8, self.code, 0, 0]);
+        self.message.write_at(bytes, at + 4);
     }
 
     // Internal: the verdict of a single event for n processes: refused with 5 at 0.
     pub fn verdict(bytes: &[u8], n: usize) -> Verdict
         ensures { result ≡ event_verdict known n bytes.now }
     {
-        if bytes.len() != 8 {
-            return Verdict::Refused(Refusal::Event(0));
-        }
-        if Event::fits(bytes, 0, n, Event::CODES) {
-            Verdict::Fine
+        let Some(slot) = bytes.as_array::<8>() else {
+            return Err(Refusal::Event(0));
+        };
+        if Event::fits(slot, n, Event::CODES) {
+            Ok(())
         } else {
-            Verdict::Refused(Refusal::Event(0))
+            Err(Refusal::Event(0))
         }
     }
 
     // Internal: whether the event is possible at a process with this record: one test of its bits, and of those that
-    // its stage stands for.
+    // its stage stands for. What it asks of code and record is no type's invariant: `parse` and `Record::at` answer for
+    // every byte and image, and a type for those that are in order would be made and used in `place::perform` alone.
     pub fn is_possible(self, own: Record) -> bool
         requires { (self.code < 8) × Tidy own.word × (stage_of own.word ≤ 10) }
         ensures { Possible self.code own.word result }
@@ -272,17 +269,22 @@ impl Event {
     {
         let code = self.code;
         let row = row_of(code % 8);
-        let next = Record {
-            word: (own.word & (0xFFFF_FFFF_FFFF_FFFF - row.off))
-                + row.on
-                + self.message as u64 * 0x1_0000_0000,
+        let begun = Begun {
+            own: Record {
+                word: (own.word & (0xFFFF_FFFF_FFFF_FFFF - row.off))
+                    + row.on
+                    + self.message as u64 * 0x1_0000_0000,
+            },
+            header,
+            started: row.started,
+            outcome: Outcome::Moved,
         };
         if code == 7 {
-            return put_at(becomes(Outcome::Moved, header, next, row.started));
+            return put_at(Counted { begun });
         }
         if code == 2 {
-            return work(header, next);
+            return work(begun);
         }
-        becomes(Outcome::Moved, header, next, row.started)
+        begun.so_far()
     }
 }

@@ -3,36 +3,16 @@
 
 ghost use Rattle.std.specs.Prelude.{◌≡◌, ◌<◌};
 ghost use Rattle.machine.specs.Ring as rule;
-ghost use Rattle.machine.specs.Answers.{fresh_verdict, fresh_answer, fresh_image};
-ghost use Rattle.image.specs.Fresh.{in_numbers, refusal_of};
+ghost use Rattle.machine.specs.Answers.{in_numbers, fresh_verdict, fresh_answer, fresh_image};
+ghost use Rattle.numbers.specs.Values.{none};
 
-use machine::{Refusal, Verdict};
-use numbers::refusal_of;
+use machine::{Answer, Refusal, Verdict};
 use span::clear;
 
 // A ring of so many processes, numbered from 0.
 #[derive(Clone, Copy)]
 pub struct Ring {
     pub size: usize,
-}
-
-// What the fresh ring call answers.
-#[derive(Clone, Copy)]
-pub enum FreshAnswer {
-    Done,
-    Refused(Refusal),
-}
-
-impl FreshAnswer {
-    // Internal: the refusal of a fresh ring call that is refused. No other is asked for it.
-    pub fn refusal(self) -> Refusal
-        ensures { result ≡ refusal_of self }
-    {
-        match self {
-            FreshAnswer::Refused(refusal) => refusal,
-            _ => Refusal::Output,
-        }
-    }
 }
 
 impl Ring {
@@ -48,38 +28,40 @@ impl Ring {
         (Ring::LEAST as u64 <= n) & (n <= Ring::MOST as u64)
     }
 
-    // Internal: the fresh ring's verdict: 1 for n, 2 for home, 3 for the buffer.
+    // Internal: the fresh ring's verdict: 1 for n, 2 for home, 3 for the buffer. It mirrors its own rule.
+    #[tactic(auto, using(crate::proofs::Laws::fresh_tests))]
     pub fn fresh_verdict(n: u64, home: u64, image: &[u8]) -> Verdict
         ensures { result ≡ fresh_verdict n home image.now }
     {
         if !Ring::fits(n) {
-            return Verdict::Refused(Refusal::Size);
+            return Err(Refusal::Size);
         }
         if n <= home {
-            return Verdict::Refused(Refusal::Home);
+            return Err(Refusal::Home);
         }
         if image.len() < 16 + 8 * n as usize {
-            return Verdict::Refused(Refusal::Short);
+            return Err(Refusal::Short);
         }
-        Verdict::Fine
+        Ok(())
     }
 
     // The fresh ring call: an image of n processes that is all zero but for n and for the envelope at home, at the
     // start of a buffer whose further bytes stay; or the refusal of its verdict.
-    pub fn fresh(n: u64, home: u64, image: &mut [u8]) -> FreshAnswer
-        ensures answer { in_numbers result ≡ fresh_answer n home image.old }
+    #[tactic(auto, using(machine::proofs::Laws::Refusals::fresh_fine))]
+    pub fn fresh(n: u64, home: u64, image: &mut [u8]) -> Answer<()>
+        ensures answer { in_numbers none result ≡ fresh_answer n home image.old }
         ensures buffer { image.new ≡ fresh_image n home image.old }
     {
         let verdict = Ring::fresh_verdict(n, home, image);
-        let Verdict::Fine = verdict else {
-            return FreshAnswer::Refused(refusal_of(verdict));
+        let Ok(()) = verdict else {
+            return verdict;
         };
         let count = 16 + 8 * n as usize;
         let at = 16 + 8 * home as usize;
         clear(image, 0, count);
         image[0] = n as u8;
         image[at + 1] = 1;
-        FreshAnswer::Done
+        Ok(())
     }
 
     // Internal: the process to the left of i, where requests go.

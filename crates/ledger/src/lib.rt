@@ -7,18 +7,19 @@ ghost use Rattle.machine.specs.Run.{outcome_number, ledger_entry};
 ghost use Rattle.ledger.specs.Record.{record_of, entered_in};
 
 use event::Event;
-use little_endian::{put_four, put_number};
+use little_endian::Word;
 use machine::Outcome;
-use numbers::{outcome_message, outcome_number};
+use span::put;
 
-// Internal: a record, written from `at` on: event number, process, code, two zeros, message.
+// Internal: a record, written from `at` on: event number, process, code, two zeros, message. The code is a byte of the
+// format here, and may be any.
 pub fn put_record(ledger: &mut [u8], at: usize, number: u32, process: u8, code: u8, message: u32)
     requires { at + 12 ≤ length ledger.old }
     ensures { ledger.new ≡ splice ledger.old at (record_of number process code message) }
 {
-    put_number(ledger, at, number);
-    put_four(ledger, at + 4, process, code, 0, 0);
-    put_number(ledger, at + 8, message);
+    number.write_at(ledger, at);
+    put(ledger, at + 4, &[process, code, 0, 0]);
+    message.write_at(ledger, at + 8);
 }
 
 // Internal: the record of a fill, take, sent or got of an event with this number, written from `at` on where the ledger
@@ -31,7 +32,7 @@ pub fn enter(ledger: &mut [u8], at: usize, number: u32, event: Event, outcome: O
     if ledger.len() < at + 12 {
         return;
     }
-    let code = outcome_number(outcome);
-    let message = outcome_message(outcome);
+    let code = outcome.number();
+    let message = outcome.message();
     put_record(ledger, at, number, event.process as u8, code, message);
 }

@@ -1,125 +1,116 @@
-// The lines of ringrun's text, written into a page. Every function answers the place where the text goes on.
-// Document 01, "The tape", its last paragraph.
+// The lines of ringrun's text, put on a page. Document 01, "The tape", its last paragraph.
 #![tactic(auto)]
 
-ghost use Rattle.std.specs.Prelude.{[], ◌∷◌, ◌++◌, ◌+◌, ◌*◌, ◌≤◌, length};
+ghost use Rattle.std.specs.Prelude.{◌≡◌, [], ◌∷◌, ◌++◌, ◌+◌, ◌*◌, ◌/◌, ◌≤◌, length};
 ghost use Rattle.machine.specs.Text.{decimal, space};
 ghost use Rattle.machine.specs.Report.{code_word, record_line, record_lines, counts_line, last_line, refusal_line};
-ghost use Rattle.text.specs.Piece.{Piece};
+ghost use Rattle.text.specs.Puts.{HasRoom, Puts};
 
-use little_endian::{number_at, wide64};
+use little_endian::Word;
 use machine::{Counts, Refusal};
-use numbers::{number_of, place_of};
-use text::{decimal_field, text_field};
+use text::Page;
 
-// What a record's code is called, and the space behind it.
-fn put_code(page: &mut [u8], at: usize, code: u8) -> usize
-    requires { at + 5 ≤ length page.old }
-    ensures piece { Piece page.old at (code_word code ++ (space ∷ [])) page.new result }
-    ensures short { result ≤ at + 5 }
+// What a record's code is called. By number: it is read from a byte of the ledger, and an enum would have to be made of
+// it by a conversion that can fail, where this can't.
+#[tactic(auto, unfolding(machine::specs::Text::text))]
+fn word(code: u8) -> &'static str
+    ensures word { result.now ≡ code_word code }
+    ensures short { length result.now ≤ 4 }
 {
     match code {
-        2 => text_field(page, at, b"fill", b' '),
-        3 => text_field(page, at, b"take", b' '),
-        4 => text_field(page, at, b"sent", b' '),
-        5 => text_field(page, at, b"got", b' '),
+        2 => "fill",
+        3 => "take",
+        4 => "sent",
+        5 => "got",
         // No record has another code.
-        _ => {
-            page[at] = b' ';
-            at + 1
-        }
+        _ => "",
     }
 }
 
-// The line of record k of a ledger: event, process, word, message. At most 31 bytes: 10 + 1, 3 + 1, 4 + 1 and 10 + 1.
-fn put_line(page: &mut [u8], at: usize, ledger: &[u8], k: usize) -> usize
-    requires { (at + 31 ≤ length page.old) × (12 * k + 12 ≤ length ledger.now) }
-    ensures piece { Piece page.old at (record_line ledger.now k) page.new result }
-    ensures short { result ≤ at + 31 }
+// The line of a record's 12 bytes: event, process, word, message. At most 31 bytes: 10 + 1, 3 + 1, 4 + 1 and 10 + 1.
+#[tactic(auto, using(machine::proofs::Text::decimal_32, machine::proofs::Text::decimal_8))]
+fn put_record(page: &mut Page<'_>, entry: &[u8])
+    requires { HasRoom page.old 31 × (length entry.now ≡ 12) }
+    ensures line { Puts page.old (record_line entry.now 0) page.new }
+    ensures short { page.new.end ≤ page.old.end + 31 }
 {
-    let from = 12 * k;
-    let event = number_at(ledger, from) as u64;
-    let process = wide64(ledger[from + 4]);
-    let code = ledger[from + 5];
-    let message = number_at(ledger, from + 8) as u64;
-    let second = decimal_field(page, at, event, b' ');
-    let third = decimal_field(page, second, process, b' ');
-    let fourth = put_code(page, third, code);
-    decimal_field(page, fourth, message, b'\n')
+    let event = u64::from(u32::read_at(entry, 0));
+    let process = u64::from(entry[4]);
+    let code = entry[5];
+    let message = u64::from(u32::read_at(entry, 8));
+    page.field(event, b' ');
+    page.field(process, b' ');
+    page.field(word(code), b' ');
+    page.field(message, b'\n');
 }
 
-// The lines of a ledger's first records, from the page's start on.
-fn put_lines(page: &mut [u8], ledger: &[u8], records: usize) -> usize
-    requires { (31 * records ≤ length page.old) × (12 * records ≤ length ledger.now) }
-    ensures piece { Piece page.old 0 (record_lines ledger.now records)
-        page.new result }
-    ensures short { result ≤ 31 * records }
+// The lines of a ledger's records.
+fn put_records(page: &mut Page<'_>, ledger: &[u8])
+    requires { HasRoom page.old (31 * (length ledger.now / 12)) }
+    ensures lines { Puts page.old (record_lines ledger.now (length ledger.now / 12)) page.new }
+    ensures short { page.new.end ≤ page.old.end + 31 * (length ledger.now / 12) }
 {
-    let mut at = 0;
-    for k in 0..records {
-        at = put_line(page, at, ledger, k);
+    for entry in ledger.chunks_exact(12) {
+        put_record(page, entry);
     }
-    at
 }
 
 // A count behind its name, each with the byte that follows it. At most 22 bytes beside the name.
-fn put_count(page: &mut [u8], at: usize, name: &[u8], count: u64, behind: u8) -> usize
-    requires { at + (length name.now + 22) ≤ length page.old }
-    ensures piece { Piece page.old at
-        ((name.now ++ (space ∷ [])) ++ (decimal count ++ (behind ∷ []))) page.new result }
-    ensures short { result ≤ at + (length name.now + 22) }
+#[tactic(auto, using(machine::proofs::Text::decimal_64))]
+fn put_count(page: &mut Page<'_>, name: &str, count: u64, behind: u8)
+    requires { HasRoom page.old (length name.now + 22) }
+    ensures count { Puts page.old ((name.now ++ (space ∷ [])) ++ (decimal count ++ (behind ∷ []))) page.new }
+    ensures short { page.new.end ≤ page.old.end + (length name.now + 22) }
 {
-    let second = text_field(page, at, name, b' ');
-    decimal_field(page, second, count, behind)
+    page.field(name, b' ');
+    page.field(count, behind);
 }
 
-// The line of the counts, but for that of records. At most 183 bytes: 29 letters, and 22 more a count.
-fn put_counts(page: &mut [u8], at: usize, counts: Counts) -> usize
-    requires { at + 183 ≤ length page.old }
-    ensures piece { Piece page.old at (counts_line counts) page.new result }
-    ensures short { result ≤ at + 183 }
+// The line of the counts, but for that of records. At most 183 bytes: 29 letters, and 22 more a count. A table of names
+// and counts would have as many lines, a loop and an invariant besides, and the last count apart, which ends the line.
+fn put_counts(page: &mut Page<'_>, counts: Counts)
+    requires { HasRoom page.old 183 }
+    ensures line { Puts page.old (counts_line counts) page.new }
+    ensures short { page.new.end ≤ page.old.end + 183 }
 {
-    let a = put_count(page, at, b"puts", counts.puts, b' ');
-    let b = put_count(page, a, b"gets", counts.gets, b' ');
-    let c = put_count(page, b, b"fills", counts.fills, b' ');
-    let d = put_count(page, c, b"takes", counts.takes, b' ');
-    let e = put_count(page, d, b"sent", counts.sent, b' ');
-    let f = put_count(page, e, b"got", counts.got, b' ');
-    put_count(page, f, b"idle", counts.idle, b'\n')
+    put_count(page, "puts", counts.puts, b' ');
+    put_count(page, "gets", counts.gets, b' ');
+    put_count(page, "fills", counts.fills, b' ');
+    put_count(page, "takes", counts.takes, b' ');
+    put_count(page, "sent", counts.sent, b' ');
+    put_count(page, "got", counts.got, b' ');
+    put_count(page, "idle", counts.idle, b'\n');
 }
 
 // Whether the ring is stopped: at most 8 bytes.
-fn put_end(page: &mut [u8], at: usize, stopped: bool) -> usize
-    requires { at + 8 ≤ length page.old }
-    ensures { Piece page.old at (last_line stopped) page.new result }
+fn put_end(page: &mut Page<'_>, stopped: bool)
+    requires { HasRoom page.old 8 }
+    ensures { Puts page.old (last_line stopped) page.new }
 {
-    if stopped {
-        text_field(page, at, b"stopped", b'\n')
-    } else {
-        text_field(page, at, b"moving", b'\n')
-    }
+    page.field(if stopped { "stopped" } else { "moving" }, b'\n');
 }
 
-// Internal: the text of a run that is done, at the page's start: its ledger's records, its counts, and whether the ring
-// is then stopped.
-pub fn put_ran(page: &mut [u8], ledger: &[u8], counts: Counts, stopped: bool) -> usize
-    requires { (31 * counts.records + 191 ≤ length page.old) × (12 * counts.records ≤ length ledger.now) }
-    ensures { Piece page.old 0
+// Internal: the text of a run that is done: its ledger's records, its counts, and whether the ring is then stopped.
+pub fn put_ran(page: &mut Page<'_>, ledger: &[u8], counts: Counts, stopped: bool)
+    requires { HasRoom page.old (31 * counts.records + 191)
+        × (12 * counts.records ≤ length ledger.now) }
+    ensures { Puts page.old
         (record_lines ledger.now counts.records ++ (counts_line counts ++ last_line stopped))
-        page.new result }
+        page.new }
 {
-    let lines = put_lines(page, ledger, counts.records as usize);
-    let last = put_counts(page, lines, counts);
-    put_end(page, last, stopped)
+    put_records(page, &ledger[..12 * counts.records as usize]);
+    put_counts(page, counts);
+    put_end(page, stopped);
 }
 
-// Internal: a refusal, at the page's start. At most 53 bytes: 7 + 1, 20 + 1, 2 + 1 and 20 + 1.
-pub fn put_refusal(page: &mut [u8], refusal: Refusal) -> usize
-    requires { 53 ≤ length page.old }
-    ensures { Piece page.old 0 (refusal_line refusal) page.new result }
+// Internal: a refusal. At most 53 bytes: 7 + 1, 20 + 1, 2 + 1 and 20 + 1.
+#[tactic(auto, using(machine::proofs::Text::decimal_64))]
+pub fn put_refusal(page: &mut Page<'_>, refusal: Refusal)
+    requires { HasRoom page.old 53 }
+    ensures { Puts page.old (refusal_line refusal) page.new }
 {
-    let second = text_field(page, 0, b"refused", b' ');
-    let third = decimal_field(page, second, number_of(refusal) as u64, b' ');
-    let fourth = text_field(page, third, b"at", b' ');
-    decimal_field(page, fourth, place_of(refusal) as u64, b'\n')
+    page.field("refused", b' ');
+    page.field(refusal.number(), b' ');
+    page.field("at", b' ');
+    page.field(refusal.place() as u64, b'\n');
 }

@@ -1,13 +1,15 @@
--- Eight bytes joined to one number, and a number written as eight bytes.
-use Prim.Native.Nat.{ℕ, zero, suc, ◌+◌, ◌*◌, ◌/◌, ◌%◌, ◌^◌, ◌≤◌, ◌<◌}
+-- Some bytes as one number, by its highest byte; a number as the bytes of std; and two numbers written in a row.
+use Prim.Native.Nat.{ℕ, zero, suc, ◌+◌, ◌*◌, ◌/◌, ◌%◌, ◌^◌, ◌≤◌}
 use mathlib.Core.Path.{◌≡◌, refl, ap, ◌∙◌}
 use mathlib.Core.List.{List, [], ◌∷◌, ◌++◌}
 use native.Mathlib.Omega.{arith}
 use native.Mathlib.Nat.{mul_left_comm}
-use lib.ListN.{length, get_or}
-use lib.Bits.{bit_or, or_shifted_r}
-use lib.Pow.{pow-add, shl_exact, shr-shr, mod-mod-pow, field}
-use Rattle.machine.specs.Bytes.{Bytes, number, little_endian_of, bytes, splice}
+use native.Mathlib.Nat.{div-div-eq-div-mul}
+use lib.ListN.{length, get_or, drop}
+use lib.Seq.{take-take}
+use lib.Pow.{pow-add, shr-shr, mod-mod-pow, field}
+use Rattle.std.specs.Int.{w16, w32, w64, from_le_bytes, bytes_low_first}
+use Rattle.machine.specs.Bytes.{part, number, little_endian_of, bytes, splice}
 use Rattle.machine.proofs.Laws.Bytes.{number_more, splice_next}
 
 -- ---- bytes, joined
@@ -18,14 +20,8 @@ byte_up k =
     let bits : 8 * suc k ≡ 8 + 8 * k = omega arith in
     rw bits (pow-add 2 8 (8 * k))
 
-number_below : (s : List ℕ) → Bytes s → (k at : ℕ) → number s at k < 2 ^ (8 * k)
-unfolding number little_endian_of
-number_below s small zero at = omega arith
-number_below s small (suc k) at =
-    rw (number_more s at k, byte_up k) (omega (arith, number_below s small k (at + 1), small at))
-
 -- a number by its highest byte
-number_top : (s : List ℕ) (k at : ℕ) → number s at (suc k) ≡ number s at k + get_or s (at + k) 0 * 2 ^ (8 * k)
+pub number_top : (s : List ℕ) (k at : ℕ) → number s at (suc k) ≡ number s at k + get_or s (at + k) 0 * 2 ^ (8 * k)
 unfolding number little_endian_of
 number_top s zero at =
     let here : at + 0 ≡ at = omega arith in
@@ -39,17 +35,38 @@ pub number_1 : (s : List ℕ) (at : ℕ) → number s at 1 ≡ get_or s at 0
 unfolding number little_endian_of
 number_1 s at = rw (number_more s at 0) (omega arith)
 
--- a byte above those before
-pub byte_above : (s : List ℕ) → Bytes s → (at k : ℕ) {low b : ℕ} → 8 + 8 * k ≤ 64 → low ≡ number s at k
-    → b ≡ get_or s (at + k) 0
-    → bit_or low (b * 2 ^ (8 * k) % 2 ^ 64) ≡ number s at (suc k)
-byte_above s small at k room below is =
-    let byte = get_or s (at + k) 0 in
-    let exact : byte * 2 ^ (8 * k) % 2 ^ 64 ≡ byte * 2 ^ (8 * k) = shl_exact 8 (8 * k) 64 (small (at + k)) room in
-    rw (below, is, exact, or_shifted_r byte (8 * k) (number s at k) (number_below s small k at), number_top s k at)
-    (omega arith)
+-- a number of bytes that were cut out of a buffer
+pub number_cut : (s : List ℕ) (at width k : ℕ) {bs : List ℕ} → k ≡ width → bs ≡ part s at k
+    → number bs 0 width ≡ number s at width
+unfolding number
+number_cut s at width k wide is = rw (is, wide) (ap little_endian_of (take-take width width (drop at s) (omega arith)))
 
--- ---- a word written
+-- bytes joined as the library joins them
+module _ (s : List ℕ) where
+  pub joined_2 : from_le_bytes w16 s ≡ number s 0 2
+  joined_2 = omega (arith, number_1 s 0, number_top s 1 0)
+
+  pub joined_4 : from_le_bytes w32 s ≡ number s 0 4
+  joined_4 = omega (arith, joined_2, number_top s 2 0, number_top s 3 0)
+
+  pub joined_8 : from_le_bytes w64 s ≡ number s 0 8
+  joined_8 = omega (arith, joined_4, number_top s 4 0, number_top s 5 0, number_top s 6 0, number_top s 7 0)
+
+-- ---- a number written
+
+-- its bytes from byte i on, as the library has them
+written_from : (k i n : ℕ) → bytes_low_first (suc i) k n ≡ bytes k (n / 256 ^ suc i)
+unfolding bytes
+written_from zero i n = refl
+written_from (suc k) i n =
+    let up : 256 ^ suc i * 256 ≡ 256 ^ suc (suc i) = omega arith in
+    rw (div-div-eq-div-mul n (256 ^ suc i) 256, up, written_from k (suc i) n)
+
+-- and all of them
+pub written : (width n : ℕ) → bytes_low_first 0 width n ≡ bytes width n
+unfolding bytes
+written zero n = refl
+written (suc k) n = ap (λ (l : List ℕ). n % 256 ∷ l) (written_from k 0 n)
 
 -- its lower bytes one by one
 pub bytes_apart : (w : ℕ) → bytes 8 w

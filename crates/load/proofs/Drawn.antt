@@ -3,14 +3,18 @@
 use Prim.Native.Nat.{ℕ, ◌+◌, ◌*◌, ◌/◌, ◌%◌, ◌≤◌, ◌<◌}
 use mathlib.Core.Path.{◌≡◌, sym, ap, ap₂, ◌∙◌}
 use mathlib.Core.Bool.{cond}
-use mathlib.Core.List.{List}
+use mathlib.Core.List.{List, [], append-nil}
 use native.Mathlib.Omega.{arith}
 use native.Mathlib.Nat.{mul-add-mod_self_left, mod-eq_of_lt, mod-lt}
-use lib.ListN.{length}
+use borrow.Rule.Slice.PartMut.{put_mid}
+use lib.ListN.{length, drop, length-drop}
+use lib.Seq.{length-take-le, drop-drop}
+use Rattle.std.proofs.lemmas.List.{drop_all}
 use lib.Dec.{eqb}
 use borrow.Author.Tests.{eq-eqb, ne_eqb}
 use Rattle.machine.specs.Bytes.{part, splice}
 use Rattle.machine.specs.Lists.{tabulate}
+use Rattle.machine.specs.Events.{Event}
 use Rattle.machine.specs.Tape.{event_bytes, list_bytes, block_bytes, padded, block_for}
 use Rattle.machine.specs.Load.{next, drawn, event_by, load_event, load_events}
 use Rattle.machine.proofs.Laws.Bytes.{splice_next}
@@ -31,65 +35,73 @@ left_over_lem product q rest is few =
 
 -- ---- an event
 
--- a process is below n, so it is a byte
-pub process_small : (first n : ℕ) → 1 ≤ n → n ≤ 64 → first % n < 256
-process_small first n some few = omega (arith, mod-lt first some)
+-- its process is below n, so it is a byte
+pub process_small : (n last k : ℕ) → 1 ≤ n → n ≤ 64 → (load_event n last k).process < 256
+unfolding load_event event_by
+process_small n last k some few = omega (arith, mod-lt (drawn last (3 * k + 1)) some)
 
--- three numbers drawn, and the event that they make, written with a message or without
-module _ (n seed : ℕ) (t : List ℕ) (at : ℕ) {first second third : ℕ} (a : first ≡ next seed) (b : second ≡ next first)
-    (c : (third ≡ next second) × (third ≤ 2147483646)) where
-  -- what is said of the tape and of the number drawn last
-  abbrev Drew : List ℕ → Type 0
-  Drew u =
-      (u ≡ splice t at (event_bytes (load_event n seed 0))) × (third ≡ drawn seed 3) × (third ≤ 2147483646)
+-- three numbers drawn, each kept as the last, and the event that they make, with a message or without
+module _ (n last : ℕ) {a b c one two three : ℕ} (first : a ≡ next last) (kept : one ≡ a) (second : b ≡ next one)
+    (kept_too : two ≡ b) (third : c ≡ next two) (kept_last : three ≡ c) where
+  pub last_drawn : three ≡ drawn last 3
+  unfolding drawn
+  last_drawn = rw (kept_last, third, kept_too, second, kept, first)
 
-  -- by the message
-  drew : {u : List ℕ} (message : ℕ) → message ≡ cond (eqb (second % 8) 0) third 0
-      → u ≡ splice t at (event_bytes record { process = first % n; code = second % 8; message = message })
-      → Drew u
+  pub event_drawn : {m : ℕ} (message : ℕ) → m ≡ n → message ≡ cond (eqb (b % 8) 0) c 0
+      → record { process = a % m; code = b % 8; message = message } ≡ load_event n last 0
   unfolding load_event event_by drawn
-  drew message is wrote = (rw (wrote, is, c.0, b, a), rw (c.0, b, a), c.1)
+  event_drawn message same is = rw (is, same, third, kept_too, second, kept, first)
 
-  pub drew_with : {u : List ℕ} → second % 8 ≡ 0
-      → u ≡ splice t at (event_bytes record { process = first % n; code = second % 8; message = third })
-      → Drew u
-  drew_with is = drew third (rw (eq-eqb (second % 8) 0 is))
+  pub with_message : {m : ℕ} → m ≡ n → b % 8 ≡ 0
+      → record { process = a % m; code = b % 8; message = c } ≡ load_event n last 0
+  with_message same put = event_drawn c same (rw (eq-eqb (b % 8) 0 put))
 
-  pub drew_without : {u : List ℕ} → (second % 8 ≡ 0 → ⊥)
-      → u ≡ splice t at (event_bytes record { process = first % n; code = second % 8; message = 0 })
-      → Drew u
-  drew_without other = drew 0 (rw (ne_eqb (second % 8) 0 other))
+  pub without_message : {m : ℕ} → m ≡ n → (b % 8 ≡ 0 → ⊥)
+      → record { process = a % m; code = b % 8; message = 0 } ≡ load_event n last 0
+  without_message same other = event_drawn 0 same (rw (ne_eqb (b % 8) 0 other))
 
 -- ---- events, one after the other
 
-module _ (n seed : ℕ) (t : List ℕ) (at : ℕ) where
-  pub events_none : t ≡ splice t at (list_bytes (load_events n seed 0))
+module _ (n seed : ℕ) (t : List ℕ) where
+  pub events_none : t ≡ splice t 0 (list_bytes (load_events n seed 0))
   unfolding list_bytes load_events tabulate
-  events_none = splice_none t at
+  events_none = splice_none t 0
 
-  pub events_more : (k : ℕ) {last more : ℕ} {one two : List ℕ} → at ≤ length t
-      → one ≡ splice t at (list_bytes (load_events n seed k))
-      → last ≡ drawn seed (3 * k)
-      → (two ≡ splice one (at + 8 * k) (event_bytes (load_event n last 0))) × (more ≡ drawn last 3)
-      → (two ≡ splice t at (list_bytes (load_events n seed (k + 1)))) × (more ≡ drawn seed (3 * (k + 1)))
+  pub events_more : (k : ℕ) {last m : ℕ} {one two : List ℕ} {v : Event}
+      → one ≡ splice t 0 (list_bytes (load_events n seed k)) → last ≡ drawn seed (3 * k) → m ≡ n
+      → v ≡ load_event m last 0 → two ≡ splice one (8 * k) (event_bytes v)
+      → two ≡ splice t 0 (list_bytes (load_events n seed (k + 1)))
   unfolding load_events
-  events_more k {two = two} room before is after =
+  events_more k {last} {m} {one} {two} {v} before is same drew wrote =
       let event = load_event n seed in
       let sofar = list_bytes (tabulate event 0 k) in
-      let here : at + 8 * k ≡ at + length sofar = omega (arith, length_list_bytes event 0 k) in
-      let same : k + 0 ≡ 0 + k = omega arith in
-      let this : load_event n (drawn seed (3 * k)) 0 ≡ event (0 + k) = event_on n seed k 0 ∙ ap event same in
-      let wrote : two ≡ splice (splice t at sofar) (at + length sofar) (event_bytes (event (0 + k))) =
-      after.0
-      ∙ ap₂ (λ (l : List ℕ) (z : ℕ). splice l (at + 8 * k) (event_bytes (load_event n z 0))) before is
-      ∙ ap₂ (λ (m : ℕ) v. splice (splice t at sofar) m (event_bytes v)) here this in
-      let drew : 3 * k + 3 ≡ 3 * (k + 1) = omega arith in (
-        wrote ∙ splice_next t at sofar (event_bytes (event (0 + k))) room
-            ∙ ap (splice t at) (sym (list_bytes_more event 0 k)),
-        after.1 ∙ ap (λ (z : ℕ). drawn z 3) is ∙ drawn_on seed (3 * k) 3 ∙ ap (drawn seed) drew,
-      )
+      let here : 8 * k ≡ 0 + length sofar = omega (arith, length_list_bytes event 0 k) in
+      let number : k + 0 ≡ 0 + k = omega arith in
+      let this : v ≡ event (0 + k) = drew ∙ rw (same, is) (event_on n seed k 0 ∙ ap event number) in
+      rw (wrote, this, before, here)
+      (splice_next t 0 sofar (event_bytes (event (0 + k))) (omega arith)
+      ∙ ap (splice t 0) (sym (list_bytes_more event 0 k)))
+
+  pub last_more : (k : ℕ) {last more : ℕ} → last ≡ drawn seed (3 * k) → more ≡ drawn last 3
+      → more ≡ drawn seed (3 * (k + 1))
+  last_more k is after =
+      let three : 3 * k + 3 ≡ 3 * (k + 1) = omega arith in
+      after ∙ ap (λ (z : ℕ). drawn z 3) is ∙ drawn_on seed (3 * k) 3 ∙ ap (drawn seed) three
 
 -- ---- a block
+
+-- what is drawn for all of a part of a tape stands there on the tape
+pub drawn_there : (t : List ℕ) (at width : ℕ) (events : List ℕ) {slots : List ℕ} → at + width ≤ length t
+    → length events ≡ width
+    → slots ≡ splice (part t at width) 0 events → put_mid at width t slots ≡ splice t at events
+unfolding splice
+drawn_there t at width events {slots} room long wrote =
+    let same : length (part t at width) ≡ width =
+    length-take-le width (drop at t) (omega (arith, length-drop at t)) in
+    let none : drop (0 + length events) (part t at width) ≡ [] =
+    drop_all (0 + length events) (part t at width) (omega arith) in
+    let whole : slots ≡ events = wrote ∙ rw none (append-nil events) in
+    rw (whole, long, drop-drop width at t)
 
 module _ (n seed count b : ℕ) (within : 63 * b ≤ count) where
   -- the whole load
@@ -120,3 +132,38 @@ module _ (n seed count b : ℕ) (within : 63 * b ≤ count) where
       (drew
       ∙ ap (λ (z : ℕ). splice t (512 * b + 8) (list_bytes (load_events n z (used / 8)))) from
       ∙ ap (splice t (512 * b + 8)) (stretch is)) sealed
+
+  -- as code has it: drawn into the block's part of the tape
+  pub block_filled : (t : List ℕ) {used width last m : ℕ} {slots two : List ℕ} → 512 * b + 512 ≤ length t
+      → used ≡ width_in (8 * count) b → used ≤ 504 → width ≡ used → last ≡ drawn seed (3 * (63 * b)) → m ≡ n
+      → slots
+      ≡ splice (part t (512 * b + 8) width) 0
+      (list_bytes (load_events m last (length (part t (512 * b + 8) width) / 8)))
+      → two
+      ≡ splice (put_mid (512 * b + 8) width t slots) (512 * b)
+      (block_bytes b (used / 8) (padded (part (put_mid (512 * b + 8) width t slots) (512 * b + 8) used)))
+      → two ≡ splice t (512 * b) (block_for list b)
+  block_filled t {used} {width} {last} {m} room is most wide from same drew sealed =
+      let there = drop (512 * b + 8) t in
+      let long : length (part t (512 * b + 8) width) ≡ used =
+      length-take-le width there (omega (arith, length-drop (512 * b + 8) t)) ∙ wide in
+      let whole : 8 * (used / 8) ≡ used = omega arith in
+      let events = list_bytes (load_events n last (used / 8)) in
+      let events_long : length events ≡ width = omega (arith, length_load n last (used / 8)) in
+      block_drawn t room is from
+      (drawn_there t (512 * b + 8) width events (omega arith) events_long (rw (← same, ← long) drew)) sealed
+
+  -- and where another block follows, this one was full
+  pub last_filled : (t : List ℕ) {used width last more : ℕ} → 512 * b + 512 ≤ length t → used ≡ width_in (8 * count) b
+      → used ≤ 504 → width ≡ used → last ≡ drawn seed (3 * (63 * b)) → 63 * (b + 1) ≤ count
+      → more ≡ drawn last (3 * (length (part t (512 * b + 8) width) / 8))
+      → more ≡ drawn seed (3 * (63 * (b + 1)))
+  last_filled t {used} {width} {last} {more} room is most wide from full drew =
+      let there = drop (512 * b + 8) t in
+      let long : length (part t (512 * b + 8) width) ≡ used =
+      length-take-le width there (omega (arith, length-drop (512 * b + 8) t)) ∙ wide in
+      let all : 3 * (63 * b) + 3 * (length (part t (512 * b + 8) width) / 8) ≡ 3 * (63 * (b + 1)) = omega arith in
+      drew
+      ∙ ap (λ (z : ℕ). drawn z (3 * (length (part t (512 * b + 8) width) / 8))) from
+      ∙ drawn_on seed (3 * (63 * b)) (3 * (length (part t (512 * b + 8) width) / 8))
+      ∙ ap (drawn seed) all

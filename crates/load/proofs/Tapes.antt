@@ -1,6 +1,7 @@
 -- What holds of every load's tape: event k is the one of draws 3k + 1 to 3k + 3, the tape is accepted for any number of
 -- codes from 8 on and reads back as the events, and the call does what the writer does with these events. A process is
 -- below n since it is a remainder by n, a code below 8 likewise, and a message is a number drawn or 0.
+use Rattle.std.specs.Prelude.{Ok}
 use Prim.Native.Nat.{ℕ, ◌+◌, ◌*◌, ◌/◌, ◌%◌, ◌≤◌, ◌<◌}
 use mathlib.Core.Path.{◌≡◌, refl, sym, ap, ◌∙◌}
 use mathlib.Core.Bool.{Bool, true, false, cond, ◌||◌}
@@ -10,7 +11,6 @@ use native.Mathlib.Nat.{mod-lt}
 use lib.ListN.{length, take}
 use lib.Dec.{eqb}
 use borrow.Author.Tests.{lt-ltb}
-use Rattle.machine.specs.declared.Verdict.TheVariants.{Fine}
 use Rattle.machine.specs.Bytes.{part, bytes, all_zero, zeros, splice}
 use Rattle.machine.specs.Lists.{tabulate}
 use Rattle.machine.specs.Events.{Event}
@@ -40,7 +40,7 @@ own_part v = refl
 
 -- ---- a load's events
 
-module _ (n seed count : ℕ) (fine : given n seed count ≡ Fine) where
+module _ (n seed count : ℕ) (fine : given n seed count ≡ Ok tt) where
   abbrev list : List ℕ
   list = list_bytes (load_events n seed count)
 
@@ -92,7 +92,7 @@ module _ (n seed count : ℕ) (fine : given n seed count ≡ Fine) where
   -- ---- the list and the tape, for any number of codes from 8 on
 
   module _ (codes : ℕ) (enough : 8 ≤ codes) where
-    pub list_accepted : list_verdict codes n list ≡ Fine
+    pub list_accepted : list_verdict codes n list ≡ Ok tt
     list_accepted =
         fine_list codes n list
         record {
@@ -106,7 +106,7 @@ module _ (n seed count : ℕ) (fine : given n seed count ≡ Fine) where
               ∙ event_fitting codes enough k;
         }
 
-    pub load_accepted : tape_verdict codes n (load_tape n seed count) ≡ Fine
+    pub load_accepted : tape_verdict codes n (load_tape n seed count) ≡ Ok tt
     unfolding load_tape
     load_accepted = written_accepted codes n list list_accepted
 
@@ -145,9 +145,9 @@ module _ (n seed count : ℕ) (fine : given n seed count ≡ Fine) where
     load_writes = (rw same_verdict, rw same_verdict)
 
     -- what it filled, the reader gives back
-    pub load_then_read : (back : List ℕ) → load_verdict n seed count output ≡ Fine → 8 * count ≤ length back
+    pub load_then_read : (back : List ℕ) → load_verdict n seed count output ≡ Ok tt → 8 * count ≤ length back
         → let tape = take (length (load_tape n seed count)) (load_output n seed count output) in
-        (read_answer n tape back ≡ answer Fine (8 * count ∷ [])) × (read_output n tape back ≡ splice back 0 list)
+        (read_answer n tape back ≡ answer (Ok tt) (8 * count ∷ [])) × (read_output n tape back ≡ splice back 0 list)
     unfolding load_tape
     load_then_read back accepted room =
         rw (load_writes.1, ← long)
@@ -156,7 +156,7 @@ module _ (n seed count : ℕ) (fine : given n seed count ≡ Fine) where
 -- ---- a shorter load and a longer one of the same seed
 
 -- the events of the one are the first of the other's
-pub load_starts : (n seed few count : ℕ) → given n seed few ≡ Fine → given n seed count ≡ Fine → few ≤ count
+pub load_starts : (n seed few count : ℕ) → given n seed few ≡ Ok tt → given n seed count ≡ Ok tt → few ≤ count
     → take few (run_events (load_tape n seed count)) ≡ run_events (load_tape n seed few)
 load_starts n seed few count fine longer h =
     rw (load_runs n seed count longer, load_runs n seed few fine) (load_begins n seed few count h)

@@ -1,5 +1,6 @@
 -- Each way through the call is that way through the rule: refused by what it is given or by the room, and done, where
 -- the blocks drawn are the load's tape.
+use Rattle.std.specs.Prelude.{Err, Ok}
 use Prim.Native.Nat.{ℕ, ◌*◌, ◌/◌, ◌≤◌, ◌<◌}
 use mathlib.Core.Path.{◌≡◌, ap, ◌∙◌}
 use mathlib.Core.List.{List, [], ◌∷◌}
@@ -9,8 +10,7 @@ use lib.Dec.{leb}
 use borrow.Author.Tests.{leb-true}
 use Rattle.machine.specs.declared.Refusal.{Refusal}
 use Rattle.machine.specs.declared.Refusal.TheVariants as refusal
-use Rattle.machine.specs.declared.Verdict.{Verdict}
-use Rattle.machine.specs.declared.Verdict.TheVariants.{Fine, Refused}
+use Rattle.machine.specs.Verdict.{Verdict}
 use Rattle.machine.specs.Bytes.{splice}
 use Rattle.machine.specs.Lists.{join, tabulate}
 use Rattle.machine.specs.Tape.{list_bytes, block_for, blocks_for, tape_of}
@@ -44,7 +44,7 @@ module _ (n seed count : ℕ) where
   abbrev pub given : Verdict
   given = or_else (size_verdict n) numbers
 
-  pub load_given : given ≡ Fine → Given n seed count
+  pub load_given : given ≡ Ok tt → Given n seed count
   unfolding size_verdict seed_verdict count_verdict
   load_given fine =
       let two = second_fine (size_verdict n) numbers fine in
@@ -69,12 +69,12 @@ module _ (n seed count : ℕ) (output : List ℕ) where
       ap (or_else (size_verdict n)) (else_else (seed_verdict seed) (count_verdict count) room)
       ∙ else_else (size_verdict n) (numbers n seed count) room
 
-  pub load_refused : {r : Refusal} → given n seed count ≡ Refused r → Loaded n seed count output (Refused r) [] output
+  pub load_refused : {r : Refusal} → given n seed count ≡ Err r → Loaded n seed count output (Err r) [] output
   unfolding load_answer load_output
   load_refused =
       inputs_refused (given n seed count) (load_verdict n seed count output) (load_tape n seed count) output in_turn
 
-  module _ (fine : given n seed count ≡ Fine) {blocks : ℕ} (all : blocks ≡ blocks_for count) where
+  module _ (fine : given n seed count ≡ Ok tt) {blocks : ℕ} (all : blocks ≡ blocks_for count) where
     long : 512 * blocks ≡ length (load_tape n seed count)
     long = omega (arith, all, length_load_tape n seed count)
 
@@ -86,7 +86,7 @@ module _ (n seed count : ℕ) (output : List ℕ) where
         let events : length list / 8 ≡ count = omega (arith, length_load n seed count) in
         rw (all, events)
 
-    pub load_short : length output < 512 * blocks → Loaded n seed count output (Refused refusal.Output) [] output
+    pub load_short : length output < 512 * blocks → Loaded n seed count output (Err refusal.Output) [] output
     unfolding load_answer load_output
     load_short =
         room_refused (given n seed count) (load_verdict n seed count output) (load_tape n seed count) output in_turn
@@ -95,7 +95,7 @@ module _ (n seed count : ℕ) (output : List ℕ) where
 
     pub load_done : {t : List ℕ} → 512 * blocks ≤ length output
         → t ≡ splice output 0 (join (tabulate (block_for (list_bytes (load_events n seed count))) 0 blocks))
-        → Loaded n seed count output Fine (512 * blocks ∷ []) t
+        → Loaded n seed count output (Ok tt) (512 * blocks ∷ []) t
     unfolding load_answer load_output
     load_done room wrote =
         output_filled (given n seed count) (load_verdict n seed count output) (load_tape n seed count) output in_turn

@@ -4,6 +4,7 @@ pub mod Bytes
 pub mod Bits
 pub mod Ored
 pub mod Splices
+pub mod Chunks
 pub mod Joined
 pub mod Ring
 pub mod Walk

@@ -23,7 +23,7 @@ in_both : {A : Type 0} (f : Reaction → A) (b : Bool) (x y : Reaction) {a : A} 
 in_both f b x y {a} hx hy = choice (λ r. f r ≡ a) b x y hx hy
 
 -- what goes to the left, and what to the right
-abbrev asks_of : Reaction → Pair
+abbrev asks_of : Reaction → Pair Bool
 asks_of r = r.asks
 
 abbrev leaves_of : Reaction → Bool

@@ -1,6 +1,7 @@
 -- No bytes are a tape of no events, and a list of none: document 02, A.2. What is tested of them is a row of no tests,
 -- so nothing refuses them; what is written for them is nothing, so every buffer has room and keeps its bytes; and an
 -- accepted image, read and written back, is the same image.
+use Rattle.std.specs.Prelude.{Ok}
 use Prim.Native.Nat.{ℕ}
 use mathlib.Core.Path.{◌≡◌, refl}
 use mathlib.Core.Bool.{Bool, true}
@@ -8,7 +9,6 @@ use mathlib.Core.List.{List, [], ◌∷◌}
 use native.Mathlib.Omega.{arith}
 use lib.ListN.{length}
 use borrow.Author.Tests.{le-leb}
-use Rattle.machine.specs.declared.Verdict.TheVariants.{Fine}
 use Rattle.machine.specs.Bytes.{Bytes}
 use Rattle.machine.specs.Tape.{list_bytes}
 use Rattle.machine.specs.Refusals.{first, size_verdict, home_verdict, seed_verdict, image_verdict, length_verdict}
@@ -28,40 +28,40 @@ unfolding of_bytes of_lists of_tape first length_verdict list_verdict tape_verdi
 of_nothing = true
 
 -- every buffer has room for nothing
-room : (output : List ℕ) → output_verdict 0 output ≡ Fine
+room : (output : List ℕ) → output_verdict 0 output ≡ Ok tt
 unfolding output_verdict
 room output = rw (le-leb 0 (length output) (omega arith))
 
-module _ (n : ℕ) (size : size_verdict n ≡ Fine) where
-  write_fine : (output : List ℕ) → write_verdict n [] output ≡ Fine
+module _ (n : ℕ) (size : size_verdict n ≡ Ok tt) where
+  write_fine : (output : List ℕ) → write_verdict n [] output ≡ Ok tt
   unfolding of_nothing write_verdict
   write_fine output = rw size (room output)
 
-  read_fine : (output : List ℕ) → read_verdict n [] output ≡ Fine
+  read_fine : (output : List ℕ) → read_verdict n [] output ≡ Ok tt
   unfolding of_nothing read_verdict
   read_fine output = rw size (room output)
 
   -- writer and reader turn nothing into nothing, whatever the output
   pub nothing_taped : (output : List ℕ)
-      → (write_answer n [] output ≡ answer Fine (0 ∷ []))
+      → (write_answer n [] output ≡ answer (Ok tt) (0 ∷ []))
       × (write_output n [] output ≡ output)
-      × (read_answer n [] output ≡ answer Fine (0 ∷ []))
+      × (read_answer n [] output ≡ answer (Ok tt) (0 ∷ []))
       × (read_output n [] output ≡ output)
   unfolding of_nothing write_answer write_output read_answer read_output
   nothing_taped output = rw (write_fine output, read_fine output) (refl, refl, refl, refl)
 
-  load_fine : (seed : ℕ) → seed_verdict seed ≡ Fine → (output : List ℕ) → load_verdict n seed 0 output ≡ Fine
+  load_fine : (seed : ℕ) → seed_verdict seed ≡ Ok tt → (output : List ℕ) → load_verdict n seed 0 output ≡ Ok tt
   unfolding of_nothing list_bytes load_events load_tape count_verdict load_verdict
   load_fine seed from output = rw (size, from) (room output)
 
   -- a load of no events is that tape
-  pub nothing_loaded : (seed : ℕ) → seed_verdict seed ≡ Fine → (output : List ℕ)
-      → (load_answer n seed 0 output ≡ answer Fine (0 ∷ [])) × (load_output n seed 0 output ≡ output)
+  pub nothing_loaded : (seed : ℕ) → seed_verdict seed ≡ Ok tt → (output : List ℕ)
+      → (load_answer n seed 0 output ≡ answer (Ok tt) (0 ∷ [])) × (load_output n seed 0 output ≡ output)
   unfolding of_nothing list_bytes load_events load_tape load_answer load_output
   nothing_loaded seed from output = rw (load_fine seed from output) (refl, refl)
 
   -- and for N and home alone ringrun prints the counts of none, on every ring
-  pub nothing_printed : (home : ℕ) → home_verdict n home ≡ Fine
+  pub nothing_printed : (home : ℕ) → home_verdict n home ≡ Ok tt
       → report_text (n ∷ home ∷ []) ≡ text "puts 0 gets 0 fills 0 takes 0 sent 0 got 0 idle 0\nstopped\n"
   unfolding of_nothing of_run of_run_call of_report
   nothing_printed home below = rw (size, below, fresh_stopped n home) refl
@@ -72,13 +72,13 @@ unfolding report_verdict report_text
 home_missing n = refl
 
 -- a run of it, on every accepted image and with every ledger: eight counts of 0, no traffic, and both as they were
-module _ (image ledger : List ℕ) (fine : image_verdict image ≡ Fine) where
-  run_fine : run_verdict image [] ledger ≡ Fine
+module _ (image ledger : List ℕ) (fine : image_verdict image ≡ Ok tt) where
+  run_fine : run_verdict image [] ledger ≡ Ok tt
   unfolding of_nothing of_run of_run_call
   run_fine = rw fine (room ledger)
 
   pub nothing_run : Bytes image
-      → (run_answer image [] ledger ≡ answer Fine (0 ∷ 0 ∷ 0 ∷ 0 ∷ 0 ∷ 0 ∷ 0 ∷ 0 ∷ 0 ∷ 0 ∷ []))
+      → (run_answer image [] ledger ≡ answer (Ok tt) (0 ∷ 0 ∷ 0 ∷ 0 ∷ 0 ∷ 0 ∷ 0 ∷ 0 ∷ 0 ∷ 0 ∷ []))
       × (run_image image [] ledger ≡ image)
       × (run_ledger image [] ledger ≡ ledger)
   unfolding of_nothing of_run run_events run_records run_answer run_image run_ledger

@@ -1,5 +1,6 @@
 -- An accepted image after a list of events is accepted again, with the same N and length, and its state is the rules'
 -- own: so it is after one event (Kept), and a state written over another leaves nothing of it.
+use Rattle.std.specs.Prelude.{Ok}
 use Prim.Native.Nat.{ℕ, ◌^◌, ◌<◌}
 use mathlib.Core.Path.{◌≡◌, refl, sym, ap, subst, ◌∙◌}
 use mathlib.Core.Bool.{Bool, true, ◌&&◌}
@@ -7,7 +8,6 @@ use mathlib.Core.List.{List, [], ◌∷◌, ◌++◌}
 use lib.ListN.{length}
 use lib.Dec.{ltb}
 use borrow.Author.Tests.{ltb-true}
-use Rattle.machine.specs.declared.Verdict.TheVariants.{Fine}
 use Rattle.machine.specs.Bytes.{Bytes}
 use Rattle.machine.specs.Lists.{all}
 use Rattle.machine.specs.Image.{State, size_in, state_in, image_with}
@@ -50,11 +50,11 @@ pub record Continues (s : List ℕ) (st : State) : Type 0 where
   pub size : size_in (image_with s st) ≡ size_in s
   pub long : length (image_with s st) ≡ length s
   pub small : Bytes (image_with s st)
-  pub fine : image_verdict (image_with s st) ≡ Fine
+  pub fine : image_verdict (image_with s st) ≡ Ok tt
 
 -- ---- one event
 
-module _ (s : List ℕ) (v : Event) (fine : image_verdict s ≡ Fine) (small : Bytes s)
+module _ (s : List ℕ) (v : Event) (fine : image_verdict s ≡ Ok tt) (small : Bytes s)
     (fits : fitting (size_in s) v ≡ true) where
   pub event_continues : Continues s (apply (state_in s) v)
   event_continues =
@@ -81,11 +81,11 @@ module _ (s : List ℕ) (v : Event) (fine : image_verdict s ≡ Fine) (small : B
 -- ---- a list of events
 
 -- none leave the image as it is
-pub none_left : (s : List ℕ) → image_verdict s ≡ Fine → Bytes s → image_with s (after (state_in s) []) ≡ s
+pub none_left : (s : List ℕ) → image_verdict s ≡ Ok tt → Bytes s → image_with s (after (state_in s) []) ≡ s
 unfolding after
 none_left s fine small = let image = image_fine s fine in rewrite_image s image.room small image.fits
 
-pub events_continue : (vs : List Event) (s : List ℕ) → image_verdict s ≡ Fine → Bytes s
+pub events_continue : (vs : List Event) (s : List ℕ) → image_verdict s ≡ Ok tt → Bytes s
     → all (fitting (size_in s)) vs ≡ true
     → Continues s (after (state_in s) vs)
 unfolding all after

@@ -1,5 +1,6 @@
 -- What a survey tells: the verdict that every other call gives the image, sets whose digit i is process i, and numbers
 -- that fit a word of the host. Of a sound image the flags are one, and the sets' ones are the header's counts.
+use Rattle.std.specs.Prelude.{Err, Ok}
 use Prim.Native.Nat.{ℕ, zero, suc, ◌+◌, ◌*◌, ◌/◌, ◌%◌, ◌^◌, ◌≤◌, ◌<◌}
 use mathlib.Core.Path.{◌≡◌, sym, ap, ◌∙◌}
 use mathlib.Core.List.{List, [], ◌∷◌, ◌++◌}
@@ -11,7 +12,6 @@ use borrow.Author.Tests.{eqb-true}
 use Rattle.machine.specs.declared.Process.{Process}
 use Rattle.machine.specs.declared.Refusal.{Refusal}
 use Rattle.machine.specs.declared.Refusal.TheVariants as refusal
-use Rattle.machine.specs.declared.Verdict.TheVariants.{Fine, Refused}
 use Rattle.machine.specs.Bytes.{bit}
 use Rattle.machine.specs.Fields.{Status, full, empty, for, blank}
 use Rattle.machine.specs.Image.{envelope_in, processes_in, size_in, state_in}
@@ -27,13 +27,13 @@ use Rattle.machine.proofs.Soundness.Sound.{sound_facts}
 -- ---- the verdict
 
 -- a survey is refused as every call with that image is
-pub survey_refused : (s : List ℕ) {r : Refusal} → front_verdict s ≡ Refused r → survey_answer s ≡ stopped_answer s
+pub survey_refused : (s : List ℕ) {r : Refusal} → front_verdict s ≡ Err r → survey_answer s ≡ stopped_answer s
 unfolding survey_answer stopped_answer image_verdict
 survey_refused s e = rw e
 
 -- and tells else the verdict with which they accept or refuse it
-pub survey_agrees : (s : List ℕ) → front_verdict s ≡ Fine
-    → survey_answer s ≡ answer Fine (verdict_values (image_verdict s) ++ gathered (state_in s))
+pub survey_agrees : (s : List ℕ) → front_verdict s ≡ Ok tt
+    → survey_answer s ≡ answer (Ok tt) (verdict_values (image_verdict s) ++ gathered (state_in s))
 unfolding survey_answer image_verdict
 survey_agrees s e = rw e
 
@@ -58,7 +58,7 @@ digit_is s (p ∷ ps) (suc i) below =
 
 -- ---- what fits a word
 
-pub survey_fits : (s : List ℕ) → front_verdict s ≡ Fine
+pub survey_fits : (s : List ℕ) → front_verdict s ≡ Ok tt
     → (places (state_in s).processes ≤ 128) × ((t : Status) → marked_set t (state_in s).processes < 2 ^ 64)
 unfolding state_in
 survey_fits s e =
@@ -71,7 +71,7 @@ survey_fits s e =
 
 -- ---- of a sound image
 
-pub sound_gathered : (s : List ℕ) → sound_verdict s ≡ Fine
+pub sound_gathered : (s : List ℕ) → sound_verdict s ≡ Ok tt
     → (places (state_in s).processes ≡ 1)
     × (ones64 (marked_set full (state_in s).processes) ≡ (envelope_in s).marked.full)
     × (ones64 (marked_set empty (state_in s).processes) ≡ (envelope_in s).marked.empty)

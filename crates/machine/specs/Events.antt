@@ -10,7 +10,7 @@ use Rattle.machine.specs.declared.Outcome.{Outcome}
 use Rattle.machine.specs.declared.Outcome.TheVariants.{Idle, Moved, Fill, Take, Sent, Got}
 use Rattle.machine.specs.declared.Reaction.{Reaction}
 use Rattle.machine.specs.Ring.{left, right}
-use Rattle.machine.specs.Fields.{Status, full, empty, none, for, with, either, count, with_count, with_marker}
+use Rattle.machine.specs.Fields.{Status, full, empty, none, for, with, either, with_marker}
 use Rattle.machine.specs.Fields.{with_marked, holding}
 use Rattle.machine.specs.Fields.{blank, with_stage, with_have, with_arriving, with_news, with_asked, with_itself}
 use Rattle.machine.specs.Fields.{with_mark, with_link, with_note}
@@ -63,7 +63,7 @@ pass r = pass_for empty (pass_for full r)
 unfoldable pub mark_for : Status → Reaction → Reaction
 mark_for s r =
     cond (for r.process.mark s) r
-    (changed r (with_marked (with_count r.envelope.marked s (suc (count r.envelope.marked s))) r.envelope)
+    (changed r (with_marked (with r.envelope.marked s (suc (for r.envelope.marked s))) r.envelope)
     (with_mark (with r.process.mark s true) r.process))
 
 -- Mark: for the status that the envelope hasn't.
@@ -74,7 +74,7 @@ mark r = mark_for (not r.envelope.full) r
 unfoldable pub unmark : Status → Reaction → Reaction
 unmark s r =
     cond (for r.process.mark s)
-    (changed r (with_marked (with_count r.envelope.marked s (pred (count r.envelope.marked s))) r.envelope)
+    (changed r (with_marked (with r.envelope.marked s (pred (for r.envelope.marked s))) r.envelope)
     (with_mark (with r.process.mark s false) r.process))
     r
 
@@ -89,7 +89,7 @@ positive (suc n) = true
 
 -- somebody waits for the envelope as it is: the marker of its status is on, or a process is marked for it
 unfoldable pub wanted : Envelope → Bool
-wanted e = for e.marker e.full || positive (count e.marked e.full)
+wanted e = for e.marker e.full || positive (for e.marked e.full)
 
 -- the envelope leaves: have and all four asked bits go off
 unfoldable pub leave : Reaction → Reaction
@@ -202,7 +202,7 @@ react code message e p =
 -- ---- on the ring
 
 -- a neighbour's record, with requests on the link from its right; a like request that waits there absorbs one
-abbrev pub requested : Pair → Process → Process
+abbrev pub requested : Pair Bool → Process → Process
 requested asks p = with_link (either p.link asks) p
 
 -- a neighbour's record, with the envelope arriving from its left where it leaves

@@ -2,7 +2,6 @@
 -- No rule stands here.
 use Rattle.std.specs.Prelude.{ℕ, Bool, true, false, cond, ◌||◌}
 use Rattle.machine.specs.declared.Pair.{Pair}
-use Rattle.machine.specs.declared.Marked.{Marked}
 use Rattle.machine.specs.declared.Envelope.{Envelope}
 use Rattle.machine.specs.declared.Process.{Process}
 
@@ -18,38 +17,30 @@ full = true
 abbrev pub empty : Status
 empty = false
 
--- ---- a bit for each status
+-- ---- a value for each status: a bit, or how many processes are marked for it
 
--- neither
-abbrev pub none : Pair
-none = record { full = false; empty = false }
-
--- the bit for s
-abbrev pub for : Pair → Status → Bool
+-- the value for s
+abbrev pub for : {A : Type 0} → Pair A → Status → A
 for p s = cond s p.full p.empty
 
--- the pair whose bit for s is b
-abbrev pub with : Pair → Status → Bool → Pair
+-- the pair whose value for s is b
+abbrev pub with : {A : Type 0} → Pair A → Status → A → Pair A
 with p s b = record { full = cond s b p.full; empty = cond s p.empty b }
 
+-- neither of two bits
+abbrev pub none : Pair Bool
+none = record { full = false; empty = false }
+
 -- what is set in one of two pairs
-abbrev pub either : Pair → Pair → Pair
+abbrev pub either : Pair Bool → Pair Bool → Pair Bool
 either p q = record { full = p.full || q.full; empty = p.empty || q.empty }
-
--- ---- how many processes are marked for each status
-
-abbrev pub count : Marked → Status → ℕ
-count c s = cond s c.full c.empty
-
-abbrev pub with_count : Marked → Status → ℕ → Marked
-with_count c s n = record { full = cond s n c.full; empty = cond s c.empty n }
 
 -- ---- the envelope, but for one field
 
-abbrev pub with_marker : Pair → Envelope → Envelope
+abbrev pub with_marker : Pair Bool → Envelope → Envelope
 with_marker m e = record { full = e.full; marker = m; marked = e.marked; message = e.message }
 
-abbrev pub with_marked : Marked → Envelope → Envelope
+abbrev pub with_marked : Pair ℕ → Envelope → Envelope
 with_marked c e = record { full = e.full; marker = e.marker; marked = c; message = e.message }
 
 -- its status and its message
@@ -58,7 +49,7 @@ holding s m e = record { full = s; marker = e.marker; marked = e.marked; message
 
 -- ---- a process record
 
-abbrev pub process_of : ℕ → Bool → Bool → Bool → Pair → Pair → Pair → Pair → ℕ → Process
+abbrev pub process_of : ℕ → Bool → Bool → Bool → Pair Bool → Pair Bool → Pair Bool → Pair Bool → ℕ → Process
 process_of stage have arriving news asked itself mark link note =
     record {
       stage = stage;
@@ -90,16 +81,16 @@ with_arriving b p = process_of p.stage p.have b p.news p.asked p.itself p.mark p
 abbrev pub with_news : Bool → Process → Process
 with_news b p = process_of p.stage p.have p.arriving b p.asked p.itself p.mark p.link p.note
 
-abbrev pub with_asked : Pair → Process → Process
+abbrev pub with_asked : Pair Bool → Process → Process
 with_asked a p = process_of p.stage p.have p.arriving p.news a p.itself p.mark p.link p.note
 
-abbrev pub with_itself : Pair → Process → Process
+abbrev pub with_itself : Pair Bool → Process → Process
 with_itself a p = process_of p.stage p.have p.arriving p.news p.asked a p.mark p.link p.note
 
-abbrev pub with_mark : Pair → Process → Process
+abbrev pub with_mark : Pair Bool → Process → Process
 with_mark m p = process_of p.stage p.have p.arriving p.news p.asked p.itself m p.link p.note
 
-abbrev pub with_link : Pair → Process → Process
+abbrev pub with_link : Pair Bool → Process → Process
 with_link l p = process_of p.stage p.have p.arriving p.news p.asked p.itself p.mark l p.note
 
 abbrev pub with_note : ℕ → Process → Process

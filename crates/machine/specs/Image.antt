@@ -1,6 +1,6 @@
 -- The image: document 01, "The image", header and process record. An image is read as a state, the envelope and the
 -- list of the processes, and a state is written as an image.
-use Rattle.std.specs.Prelude.{ℕ, ◌+◌, ◌*◌, List, [], ◌∷◌, ◌++◌, length, get_or, eqb}
+use Rattle.std.specs.Prelude.{Bool, ℕ, ◌+◌, ◌*◌, List, [], ◌∷◌, ◌++◌, length, get_or, eqb}
 use Rattle.machine.specs.declared.Pair.{Pair}
 use Rattle.machine.specs.declared.Envelope.{Envelope}
 use Rattle.machine.specs.declared.Process.{Process}
@@ -17,7 +17,7 @@ pub record State : Type 0 where
 -- ---- reading
 
 -- bits k and k + 1 of a byte, for full and for empty
-abbrev pub pair_of : ℕ → ℕ → Pair
+abbrev pub pair_of : ℕ → ℕ → Pair Bool
 pair_of byte k = record { full = bit_of byte k; empty = bit_of byte (k + 1) }
 
 -- the header: byte 1 status, 2 markers, 3 and 4 the counts of marked processes, 8 to 11 the message
@@ -57,7 +57,7 @@ state_in s = record { envelope = envelope_in s; processes = processes_in s (size
 -- ---- writing
 
 -- full is the lower bit
-abbrev pub pair_bits : Pair → ℕ
+abbrev pub pair_bits : Pair Bool → ℕ
 pair_bits p = bit p.full + 2 * bit p.empty
 
 -- byte 1 of a record: bit 0 have, 1 arriving, 2 news

@@ -3,6 +3,7 @@
 -- which section.
 pub mod Bytes
 pub mod Lists
+pub mod Verdict
 pub mod Ring
 pub mod Fields
 pub mod Image

@@ -1,7 +1,7 @@
 -- A load that anyone can repeat: document 02, A.1. Numbers drawn from a seed, the events that they make, the tape of
 -- these, and the call.
 use Rattle.std.specs.Prelude.{ℕ, zero, suc, ◌+◌, ◌*◌, ◌%◌, cond, List, [], ◌∷◌, length, eqb}
-use Rattle.machine.specs.declared.Verdict.{Verdict}
+use Rattle.machine.specs.Verdict.{Verdict}
 use Rattle.machine.specs.Bytes.{splice}
 use Rattle.machine.specs.Lists.{tabulate}
 use Rattle.machine.specs.Events.{Event}

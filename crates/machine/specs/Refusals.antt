@@ -2,11 +2,10 @@
 -- place, and the order of the tests of one input. The order between a call's inputs stands with the calls, in Answers
 -- and Load.
 use Rattle.std.specs.Prelude.{ℕ, zero, suc, ◌+◌, ◌-◌, ◌*◌, ◌/◌, ◌%◌, Bool, true, false, ◌&&◌, ◌||◌, List, length}
-use Rattle.std.specs.Prelude.{get_or, eqb, leb, ltb}
+use Rattle.std.specs.Prelude.{get_or, eqb, leb, ltb, Err, Ok}
 use Rattle.machine.specs.declared.Refusal.{Refusal}
 use Rattle.machine.specs.declared.Refusal.TheVariants as refusal
-use Rattle.machine.specs.declared.Verdict.{Verdict}
-use Rattle.machine.specs.declared.Verdict.TheVariants.{Fine, Refused}
+use Rattle.machine.specs.Verdict.{Verdict}
 use Rattle.machine.specs.Bytes.{zeros}
 use Rattle.machine.specs.Lists.{within}
 use Rattle.machine.specs.Ring.{size_fits, image_length}
@@ -46,17 +45,17 @@ place_of refusal.Seed = 0
 
 -- refused as r unless a condition holds
 abbrev pub unless : Bool → Refusal → Verdict
-unless true r = Fine
-unless false r = Refused r
+unless true r = Ok tt
+unless false r = Err r
 
 -- the first of two tests that refuses
 abbrev pub or_else : Verdict → Verdict → Verdict
-or_else Fine v = v
-or_else (Refused r) v = Refused r
+or_else (Ok _) v = v
+or_else (Err r) v = Err r
 
 -- the first refusal of f at i, i + 1, .. (k of them)
 unfoldable pub first : (ℕ → Verdict) → ℕ → ℕ → Verdict
-first f i zero = Fine
+first f i zero = Ok tt
 first f i (suc k) = or_else (f i) (first f (i + 1) k)
 
 -- ---- 1 and 2: arguments

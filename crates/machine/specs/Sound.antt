@@ -6,7 +6,7 @@ use Rattle.machine.specs.declared.Process.{Process}
 use Rattle.machine.specs.Bytes.{bit, zeros}
 use Rattle.machine.specs.Lists.{every, all, sum}
 use Rattle.machine.specs.Ring.{record_at}
-use Rattle.machine.specs.Fields.{Status, full, empty, for, count}
+use Rattle.machine.specs.Fields.{Status, full, empty, for}
 use Rattle.machine.specs.Image.{State, process_in, state_in, size_in}
 use Rattle.machine.specs.Stages.{last_stage, noted, with_empty, with_full, markable}
 
@@ -86,7 +86,7 @@ ones64 set = ones_in 64 set
 
 -- the count for s equals the marks for s
 abbrev pub count_fits : Status → State → Bool
-count_fits s st = eqb (ones64 (marked_set s st.processes)) (count st.envelope.marked s)
+count_fits s st = eqb (ones64 (marked_set s st.processes)) (for st.envelope.marked s)
 
 -- just one flag is set; the stages have the envelope that they need; both counts equal the marks
 abbrev pub rest_rules : State → List Bool

@@ -1,7 +1,6 @@
 -- What one walk over an image finds, sound or not: document 02, A.3. The flags and the sets are soundness's own.
-use Rattle.std.specs.Prelude.{ℕ, List, [], ◌∷◌, ◌++◌}
-use Rattle.machine.specs.declared.Verdict.{Verdict}
-use Rattle.machine.specs.declared.Verdict.TheVariants.{Fine, Refused}
+use Rattle.std.specs.Prelude.{ℕ, List, [], ◌∷◌, ◌++◌, Err, Ok}
+use Rattle.machine.specs.Verdict.{Verdict}
 use Rattle.machine.specs.Fields.{full, empty}
 use Rattle.machine.specs.Image.{State, state_in}
 use Rattle.machine.specs.Sound.{places, marked_set}
@@ -10,12 +9,12 @@ use Rattle.machine.specs.Answers.{Answer, answer}
 
 -- a verdict as two values: the refusal's number and its place, 0 and 0 where nothing is refused
 abbrev pub verdict_number : Verdict → ℕ
-verdict_number Fine = 0
-verdict_number (Refused r) = number_of r
+verdict_number (Ok _) = 0
+verdict_number (Err r) = number_of r
 
 abbrev pub verdict_place : Verdict → ℕ
-verdict_place Fine = 0
-verdict_place (Refused r) = place_of r
+verdict_place (Ok _) = 0
+verdict_place (Err r) = place_of r
 
 abbrev pub verdict_values : Verdict → List ℕ
 verdict_values v = verdict_number v ∷ verdict_place v ∷ []

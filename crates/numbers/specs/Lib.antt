@@ -1,2 +1,3 @@
 -- What contracts over this crate cite beside the rules.
 pub mod Verdicts
+pub mod Values

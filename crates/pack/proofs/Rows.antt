@@ -1,15 +1,17 @@
 -- Blocks and stretches of events written one after the other: each starts where the one before it ends.
 use Prim.Native.Nat.{ℕ, ◌+◌, ◌*◌, ◌≤◌, ◌<◌}
 use mathlib.Core.Path.{◌≡◌, sym, ap, ap₂, ◌∙◌}
-use mathlib.Core.List.{List, ◌++◌}
+use mathlib.Core.List.{List, [], ◌++◌}
 use native.Mathlib.Omega.{arith}
-use lib.ListN.{length, drop, length-drop}
-use lib.Seq.{length-take-le}
+use lib.ListN.{length, get_or, take, drop, length-drop}
+use lib.Seq.{get_or-take, length-take-le}
+use Rattle.std.specs.Simd.{first_chunks}
 use Rattle.machine.specs.Bytes.{part, splice}
 use Rattle.machine.specs.Lists.{join, tabulate}
 use Rattle.machine.specs.Tape.{slot_at, block_for}
 use Rattle.machine.proofs.Laws.Bytes.{splice_next}
-use Rattle.machine.proofs.Laws.Splices.{splice_none}
+use Rattle.machine.proofs.Laws.Splices.{part_part, splice_none}
+use Rattle.checksum.proofs.Pass.{chunk_at}
 use Rattle.machine.proofs.Laws.Joined.{join_more, length_joined}
 use Rattle.machine.proofs.Tapes.{length_block}
 use Rattle.pack.specs.Pack.{width_in, taken_from}
@@ -31,6 +33,14 @@ piece_more s f w b wide =
     ∙ splice_next s 0 (join (tabulate f 0 b)) (f b) (omega arith)
     ∙ ap (λ (l : List ℕ). splice s 0 (join (tabulate f 0 b) ++ l)) here
     ∙ ap (splice s 0) (sym (join_more f 0 b))
+
+-- the events of a block, as the blocks of a tape are counted
+pub block_at : (tape : List ℕ) (n k j used : ℕ) {whole : List (List ℕ)} → j < n → j < k → used ≤ 504
+    → whole ≡ first_chunks 512 k tape
+    → part (get_or (take n whole) j []) 8 used ≡ part tape (512 * j + 8) used
+block_at tape n k j used {whole} few h some are =
+    ap (λ (l : List ℕ). part l 8 used) (get_or-take n whole j [] few)
+    ∙ rw (are, chunk_at 512 k tape j [] h) (part_part tape (512 * j) 512 8 used (omega arith))
 
 -- one more block
 pub packed_more : (list s : List ℕ) (b : ℕ) {t u : List ℕ} → t ≡ splice s 0 (join (tabulate (block_for list) 0 b))

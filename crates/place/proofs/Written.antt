@@ -3,7 +3,7 @@
 -- (machine/proofs/Image). In a ring of two or more a neighbour is another process, so what is read of it is what stood
 -- there. Where nothing is asked or the envelope stays, the rule's change is no change (Idle.unchanged).
 use Prim.Native.Nat.{ℕ, ◌*◌, ◌%◌, ◌≤◌, ◌<◌}
-use mathlib.Core.Path.{◌≡◌, sym, ap, subst, ◌∙◌}
+use mathlib.Core.Path.{◌≡◌, sym, ap, ◌∙◌}
 use mathlib.Core.Bool.{true, false}
 use mathlib.Core.List.{List, ◌++◌}
 use native.Mathlib.Omega.{arith}
@@ -24,6 +24,7 @@ use Rattle.machine.proofs.Laws.Ring.{left_below, right_below, left_other, right_
 use Rattle.machine.proofs.Image.Stored.{length_state, store_process, read_at}
 use Rattle.machine.proofs.Soundness.Around.{no_request, no_arrival}
 use Rattle.machine.proofs.Idle.{unchanged}
+use Rattle.record.specs.declared.statuses.Statuses.{Statuses}
 use Rattle.record.specs.Words.{shown_process, shown_envelope, Tidy}
 use Rattle.record.proofs.Images.{Read, record_read, record_written, header_written}
 use Rattle.record.proofs.Neighbours.{requested_shown, arrived_shown}
@@ -40,10 +41,6 @@ changed_at st k f = record { envelope = st.envelope; processes = change st.proce
 module _ {s : List ℕ} {n i : ℕ} {r : Reaction} (ready : Placeable s n i r) where
   inside : i < size_in s
   inside = omega (arith, ready.below, ready.size)
-
-  -- requests for no more than full and empty
-  pub few_asks : {asks : ℕ} → r.reach ≡ Left asks → asks < 4
-  few_asks is = subst (λ (x : Reach). asks_in x < 4) is ready.fits.asks
 
   -- another process of the ring
   abbrev Beside : ℕ → Type 0
@@ -149,14 +146,14 @@ module _ {s : List ℕ} (small : Bytes s) {n i : ℕ} {r : Reaction} (ready : Pl
     pub placed_own : r.reach ≡ Own → u ≡ image_with s (placed s i r)
     placed_own is = by_reach is (own_written first second ∙ rw (unasked, stays own.processes))
 
-    pub placed_left : {asks k : ℕ} {v : List ℕ} → r.reach ≡ Left asks → k ≡ left n i
-        → v ≡ splice u (record_at k) (bytes 8 (bit_or (number u (record_at k) 8) (asks * 4194304)))
+    pub placed_left : {asks : Statuses} {k : ℕ} {v : List ℕ} → r.reach ≡ Left asks → k ≡ left n i
+        → v ≡ splice u (record_at k) (bytes 8 (bit_or (number u (record_at k) 8) (asks.bits * 4194304)))
         → v ≡ image_with s (placed s i r)
     placed_left {asks} is at third =
-        let ask = requested (pair_of asks 0) in
+        let ask = requested (pair_of asks.bits 0) in
         by_reach is
-        (other_written (λ w. bit_or w (asks * 4194304)) ask (beside_left ready at) (own_written first second)
-        (λ w tidy. requested_shown w tidy asks (few_asks ready is)) third
+        (other_written (λ w. bit_or w (asks.bits * 4194304)) ask (beside_left ready at) (own_written first second)
+        (λ w tidy. requested_shown w tidy asks.bits asks.two) third
         ∙ rw (at, at_n, stays (change own.processes (left (length ring) i) ask)))
 
     pub placed_right : {k : ℕ} {v : List ℕ} → r.reach ≡ Right → k ≡ right n i
@@ -167,3 +164,6 @@ module _ {s : List ℕ} (small : Bytes s) {n i : ℕ} {r : Reaction} (ready : Pl
         (other_written (λ w. bit_or w 512) (arrived true) (beside_right ready at) (own_written first second)
         arrived_shown third
         ∙ rw (at, at_n, unasked))
+
+-- what is known where a reaction can be placed, and the own record's way through the rule
+pub ruleset when_placeable = (image_fine, beside_left, beside_right, placed_own)

@@ -1,7 +1,6 @@
 -- What must be known before a reaction is written and before an event is performed, and what is then so.
-use Rattle.std.specs.Prelude.{ℕ, ◌+◌, ◌%◌, ◌^◌, ◌<◌, ◌≡◌, cond, List}
+use Rattle.std.specs.Prelude.{ℕ, ◌+◌, ◌%◌, ◌^◌, ◌<◌, ◌≡◌, cond, List, Ok}
 use Rattle.machine.specs.declared.Outcome.{Outcome}
-use Rattle.machine.specs.declared.Verdict.TheVariants.{Fine}
 use Rattle.machine.specs.Image.{State, size_in, state_in}
 use Rattle.machine.specs.Events as rule
 use Rattle.machine.specs.Stopped.{is_idle}
@@ -18,7 +17,7 @@ use Rattle.place.specs.declared.Done.{Done}
 
 -- an accepted image of n processes, and a reaction at one of them whose header keeps N
 pub record Placeable (s : List ℕ) (n i : ℕ) (r : Reaction) : Type 0 where
-  pub fine : image_verdict s ≡ Fine
+  pub fine : image_verdict s ≡ Ok tt
   pub size : n ≡ size_in s
   pub below : i < n
   pub fits : Fits r
@@ -36,7 +35,7 @@ placed s i r =
 
 -- an accepted image, and one of the eight events at a process of it
 pub record Performable (s : List ℕ) (event : Event) : Type 0 where
-  pub fine : image_verdict s ≡ Fine
+  pub fine : image_verdict s ≡ Ok tt
   pub below : event.process < size_in s
   pub code : event.code < 8
   pub message : event.message < 2 ^ 32

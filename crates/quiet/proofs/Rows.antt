@@ -25,7 +25,7 @@ pub record Sight : Type 0 where
   pub asks : ℕ
 
 -- a bit for the wish, and one for the other status
-abbrev pub pairs : Status → Bool → Bool → Pair
+abbrev pub pairs : Status → Bool → Bool → Pair Bool
 pairs w b o = record { full = cond w b o; empty = cond w o b }
 
 -- the rows: main has told its wish; the wish is on the link at place j; it was heard there, or at place 0 told to put;

@@ -1,6 +1,5 @@
 -- Traffic on a quiet ring as makers read it: document 02, A.5, of the calls' own answers.
-use Rattle.std.specs.Prelude.{ℕ, ◌≤◌, ◌<◌, ◌≡◌, List, ◌++◌, length}
-use Rattle.machine.specs.declared.Verdict.TheVariants.{Fine}
+use Rattle.std.specs.Prelude.{ℕ, ◌≤◌, ◌<◌, ◌≡◌, List, ◌++◌, length, Ok}
 use Rattle.machine.specs.Bytes.{Bytes, number}
 use Rattle.machine.specs.Ring.{least, most, image_length}
 use Rattle.machine.specs.Events.{Event}
@@ -35,7 +34,7 @@ QuietCalls =
 abbrev pub QuietRun : Type 0
 QuietRun =
     Lightly (λ n e s r image vs.
-    (tape ledger : List ℕ) → Bytes tape → run_events tape ≡ vs → run_verdict image tape ledger ≡ Fine
+    (tape ledger : List ℕ) → Bytes tape → run_events tape ≡ vs → run_verdict image tape ledger ≡ Ok tt
     → (run_traffic (run_answer image tape ledger) ≡ to_and_fro n e s r)
     × ((result : List ℕ) → 80 ≤ length result
     → (number (result_after (run_answer image tape ledger) result) 64 8 ≡ both_ways n e s r)

@@ -2,9 +2,9 @@
 -- every value of the byte.
 use Prim.Native.Nat.{ℕ, zero, suc, ◌-◌, ◌*◌, ◌/◌, ◌%◌, ◌^◌, ◌<◌}
 use mathlib.Core.Path.{◌≡◌, refl, ap, ◌∙◌}
-use mathlib.Core.Bool.{true, false, not, cond, ◌&&◌, ◌||◌}
+use mathlib.Core.Bool.{Bool, true, false, not, cond, ◌&&◌, ◌||◌}
 use native.Mathlib.Omega.{arith}
-use lib.Bits.{bit_and, bit_or, or_shr, or_mod, or_lt}
+use lib.Bits.{bit_and, bit_or, or_shr, or_mod}
 use lib.Dec.{eqb}
 use Rattle.machine.specs.declared.Pair.{Pair}
 use Rattle.machine.specs.Bytes.{bit_of}
@@ -50,8 +50,8 @@ pub heeded : (m r : ℕ) → r < 256 → pair_of (bit_or m (r % 4)) 0 ≡ either
 heeded m r h =
     let asked = low_pair r h in
     λ i. record {
-      full = (or_bit m (r % 4) 0 ∙ ap (λ (p : Pair). bit_of m 0 || p.full) asked) i;
-      empty = (or_bit m (r % 4) 1 ∙ ap (λ (p : Pair). bit_of m 1 || p.empty) asked) i;
+      full = (or_bit m (r % 4) 0 ∙ ap (λ (p : Pair Bool). bit_of m 0 || p.full) asked) i;
+      empty = (or_bit m (r % 4) 1 ∙ ap (λ (p : Pair Bool). bit_of m 1 || p.empty) asked) i;
     }
 
 -- ---- what leaves with the envelope
@@ -72,7 +72,7 @@ gone_along stage flags requests note byte byte_2 =
 -- ---- a mark set, and off
 
 -- only the mark changes, by the status that it is for
-by_mark : (f : Status → ℕ → ℕ) (mark : Status → ℕ → Pair)
+by_mark : (f : Status → ℕ → ℕ) (mark : Status → ℕ → Pair Bool)
     → same (f true) (at 0) (at 2) (mark true) (at 6) && same (f false) (at 0) (at 2) (mark false) (at 6) ≡ true
     → (s : Status) (r : ℕ) → r < 256
     → Pairs (f s r) (pair_of r 0) (pair_of r 2) (mark s r) (pair_of r 6)
@@ -119,41 +119,37 @@ standing =
 abbrev pub wanted_in : ℕ → ℕ → ℕ
 wanted_in wish r = bit_or (r % 4) wish
 
-abbrev pub wanted_by : ℕ → ℕ → Pair
+abbrev pub wanted_by : ℕ → ℕ → Pair Bool
 wanted_by wish r = either (pair_of r 0) (pair_of wish 0)
 
 -- one pair without another
-abbrev pub unless : Pair → Pair → Pair
+abbrev pub unless : Pair Bool → Pair Bool → Pair Bool
 unless p q = record { full = p.full && not q.full; empty = p.empty && not q.empty }
 
 -- byte 2 with it asked for, and what of it wasn't, as bits and as pairs
 abbrev passes : ℕ → ℕ → ℕ
 passes wish r = bit_or r (wanted_in wish r * 4)
 
-abbrev itself_with : ℕ → ℕ → Pair
+abbrev itself_with : ℕ → ℕ → Pair Bool
 itself_with wish r = either (pair_of r 2) (wanted_by wish r)
 
-abbrev asks : ℕ → ℕ → Pair
+abbrev asks : ℕ → ℕ → Pair Bool
 asks wish r = pair_of (bit_and (wanted_in wish r) (3 - r / 4 % 4)) 0
 
-abbrev asks_with : ℕ → ℕ → Pair
+abbrev asks_with : ℕ → ℕ → Pair Bool
 asks_with wish r = unless (wanted_by wish r) (pair_of r 2)
 
-module _ (wish : ℕ) (few : wish < 3) (r : ℕ) (h : r < 256) where
+module _ (wish : ℕ) (few : wish < 4) (r : ℕ) (h : r < 256) where
   pub passed : Pairs (passes wish r) (pair_of r 0) (either (pair_of r 2) (wanted_by wish r)) (pair_of r 4) (pair_of r 6)
   unfolding every
   passed =
       by_test (passes wish) (at 0) (itself_with wish) (at 4) (at 6)
-      (every_at 3 (λ n. same (passes n) (at 0) (itself_with n) (at 4) (at 6)) refl wish few)
+      (every_at 4 (λ n. same (passes n) (at 0) (itself_with n) (at 4) (at 6)) refl wish few)
       r h
 
   pub asks_are : asks wish r ≡ unless (wanted_by wish r) (pair_of r 2)
   unfolding every
   asks_are =
       pair_test (asks wish) (asks_with wish)
-      (every_at 3 (λ n. every 256 (λ k. same_pair (asks n k) (asks_with n k))) refl wish few)
+      (every_at 4 (λ n. every 256 (λ k. same_pair (asks n k) (asks_with n k))) refl wish few)
       r h
-
--- what is asked and what is wished are two bits together
-pub wants_few : (asked wish : ℕ) → asked < 4 → wish < 3 → bit_or asked wish < 4
-wants_few asked wish two one = or_lt 2 asked wish two (omega arith)

@@ -6,7 +6,8 @@ use mathlib.Core.Bool.{Bool, true, false}
 use native.Mathlib.Omega.{arith}
 use lib.Bits.{bit_and, bit_or, or_lt, and_le_l}
 use lib.Dec.{eqb}
-use Rattle.machine.specs.Image.{pair_of, process_from}
+use Rattle.machine.specs.Fields.{none}
+use Rattle.machine.specs.Image.{process_from}
 use Rattle.machine.specs.Events as rule
 use Rattle.record.specs.declared.process.Record.{Record}
 use Rattle.record.specs.declared.header.Header.{Header}
@@ -14,25 +15,28 @@ use Rattle.record.specs.Words.{stage_of, flags_of, requests_of, spare_of, note_o
 use Rattle.record.specs.Words.{shown_process, shown_envelope, TidyHeader}
 use Rattle.record.proofs.Fields.{Fields, shows, is_tidy, set_in_2, off_in, all_ones, asked_in}
 use Rattle.record.proofs.Headers.{shows_envelope, is_tidy_header}
-use Rattle.reaction.specs.declared.Reach.TheVariants.{Right}
+use Rattle.reaction.specs.declared.begun.Begun.{Begun}
+use Rattle.reaction.specs.declared.Reach.TheVariants.{Own, Right}
 use Rattle.reaction.specs.declared.Reaction.{Reaction}
-use Rattle.reaction.specs.Reaction.{asks_in, shown, Begun, Makes}
+use Rattle.reaction.specs.Reaction.{shown, so_far, Makes}
 use Rattle.reaction.proofs.Bits.{heeded, gone_along}
-use Rattle.reaction.proofs.Made.{turned, seen}
+use Rattle.reaction.proofs.Made.{turned, so_far_fits, seen}
 
-module _ (r : Reaction) (begun : Begun r) {asked : ℕ} (asked_is : asked ≡ asked_of r.own.word)
-    {with_markers : Header}
-    (word : with_markers.word ≡ bit_or r.header.word (asked * 65536))
-    (message : with_markers.message ≡ r.header.message) where
+module _ (b : Begun) {asked : ℕ} (asked_is : asked ≡ asked_of b.own.word) {with_markers : Header}
+    (word : with_markers.word ≡ bit_or b.header.word (asked * 65536))
+    (message : with_markers.message ≡ b.header.message) where
+  abbrev r : Reaction
+  r = so_far b
+
   -- its word, the header's, and the markers with what the right has asked for
   abbrev w : ℕ
-  w = r.own.word
+  w = b.own.word
 
   abbrev h : ℕ
-  h = r.header.word
+  h = b.header.word
 
   abbrev markers : ℕ
-  markers = bit_or (requests_of r.header.word) (requests_of r.own.word % 4)
+  markers = bit_or (requests_of b.header.word) (requests_of b.own.word % 4)
 
   markers_fields : Fields with_markers.word (stage_of h) (flags_of h) markers (spare_of h) (note_of h)
   markers_fields =
@@ -40,7 +44,7 @@ module _ (r : Reaction) (begun : Begun r) {asked : ℕ} (asked_is : asked ≡ as
 
   pub markers_tidy : TidyHeader with_markers
   markers_tidy =
-      let tidy = begun.fits.header in
+      let tidy = b.header_tidy in
       let two : markers < 4 = or_lt 2 (requests_of h) (requests_of w % 4) (omega (arith, tidy.markers)) (omega arith) in
       is_tidy_header markers_fields tidy.status (omega arith) tidy.counts (rw message tidy.message)
 
@@ -61,10 +65,10 @@ module _ (r : Reaction) (begun : Begun r) {asked : ℕ} (asked_is : asked ≡ as
     tested = ap rule.wanted (sym markers_shows) ∙ sym test
 
     pub forward_leaves : wanted ≡ true → {own : Record} → own.word ≡ bit_and w 18446744073708568319
-        → Makes rule.forward r (turned r own with_markers Right r.outcome)
+        → Makes rule.forward r (turned r own with_markers Right b.outcome)
     unfolding rule.forward rule.set_markers rule.leave
     forward_leaves is {own} off =
-        let fits = begun.fits in
+        let fits = so_far_fits b in
         let f : Fields own.word (stage_of w) (bit_and (flags_of w) 254) (bit_and (requests_of w) 240) (spare_of w)
         (bit_and (note_of w) 4294967295) =
         rw off (off_in w 1 15 0 (omega arith) (omega arith) (omega arith)) in
@@ -81,22 +85,22 @@ module _ (r : Reaction) (begun : Begun r) {asked : ℕ} (asked_is : asked ≡ as
               (λ i. record {
                 process = made i;
                 envelope = markers_shows i;
-                asks = pair_of (asks_in (sym begun.here i)) 0;
+                asks = none;
                 leaves = true;
-                outcome = r.outcome;
+                outcome = b.outcome;
               });
-          fits = record { own = tidy; header = markers_tidy; asks = omega arith };
+          fits = record { own = tidy; header = markers_tidy };
           size = markers_fields.stage_is;
           started = refl;
         }
 
     pub forward_stays : wanted ≡ false
-        → Makes rule.forward r (turned r r.own with_markers r.reach r.outcome)
+        → Makes rule.forward r (turned r b.own with_markers Own b.outcome)
     unfolding rule.forward rule.set_markers
     forward_stays is =
         record {
-          shows = rw (tested ∙ is) (ap (seen r.reach r.outcome (shown_process w)) markers_shows);
-          fits = record { own = begun.fits.own; header = markers_tidy; asks = begun.fits.asks };
+          shows = rw (tested ∙ is) (ap (seen Own b.outcome (shown_process w)) markers_shows);
+          fits = record { own = b.tidy; header = markers_tidy };
           size = markers_fields.stage_is;
           started = refl;
         }

@@ -10,14 +10,19 @@ use Rattle.record.specs.declared.process.Record.{Record}
 use Rattle.record.specs.declared.header.Header.{Header}
 use Rattle.record.specs.Words.{flags_of, requests_of, spare_of, note_of, shown_envelope}
 use Rattle.record.proofs.Fields.{Fields, shows, is_tidy, at_stage}
+use Rattle.reaction.specs.declared.begun.Begun.{Begun}
 use Rattle.reaction.specs.declared.Reach.{Reach}
 use Rattle.reaction.specs.declared.Reaction.{Reaction}
-use Rattle.reaction.specs.Reaction.{Ruled, asks_in, leaves_in, shown, Fits, Makes}
+use Rattle.reaction.specs.Reaction.{Ruled, asks_in, leaves_in, shown, Fits, so_far, Makes}
 
 -- r with another record, header, reach and outcome
 abbrev pub turned : Reaction → Record → Header → Reach → Outcome → Reaction
 turned r own header reach outcome =
     record { own = own; header = header; reach = reach; started = r.started; outcome = outcome }
+
+-- words in order, by the type
+pub so_far_fits : (b : Begun) → Fits (so_far b)
+so_far_fits b = record { own = b.tidy; header = b.header_tidy }
 
 -- ---- made by the rule
 
@@ -72,7 +77,7 @@ restaged r fits stage byte outcome {own} word =
     let tidy = is_tidy f fits.own.flags fits.own.spare fits.own.note in
     record {
       shows = ap (λ p. seen r.reach outcome p (shown_envelope r.header)) (shows f);
-      fits = record { own = tidy; header = fits.header; asks = fits.asks };
+      fits = record { own = tidy; header = fits.header };
       size = refl;
       started = refl;
     }

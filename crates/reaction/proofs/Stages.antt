@@ -16,7 +16,8 @@ use Rattle.machine.specs.Events as rule
 use Rattle.record.specs.declared.process.Record.{Record}
 use Rattle.record.specs.Words.{stage_of, flags_of, have_of, full_of, shown_process, shown_envelope}
 use Rattle.record.proofs.Headers.{full_is}
-use Rattle.reaction.specs.declared.Reach.TheVariants.{Right}
+use Rattle.reaction.specs.declared.Reach.{Reach}
+use Rattle.reaction.specs.declared.Reach.TheVariants.{Own, Left, Right}
 use Rattle.reaction.specs.declared.Reaction.{Reaction}
 use Rattle.reaction.specs.Reaction.{Ruled, shown, leaves_in, Fits, Makes, pair_for, asking}
 use Rattle.reaction.proofs.Made.{turned, then, likewise, stays, restaged}
@@ -82,15 +83,21 @@ module _ (r : Reaction) {have : Bool} (read : have ≡ have_of r.own.word) where
 
 -- ---- ends
 
+-- the envelope stays at the first two of the three reaches: none, and the left with requests
+stayed : (x : Reach) → (x ≡ Right → ⊥) → leaves_in x ≡ false
+stayed Own other = refl
+stayed (Left asks) other = refl
+stayed Right other = absurd (other refl)
+
 module _ (r : Reaction) (fits : Fits r) where
   pub ends_made : (outcome : Outcome) {own : Record} → own.word ≡ r.own.word / 256 * 256 + 0
       → Makes (rule.ends outcome) r (turned r own r.header r.reach outcome)
   unfolding rule.ends
   ends_made outcome word = likewise (restaged r fits 0 (omega arith) outcome word) refl
 
-  pub end_stayed : leaves_in r.reach ≡ false → Makes rule.end_put r r
+  pub end_stayed : (r.reach ≡ Right → ⊥) → Makes rule.end_put r r
   unfolding rule.end_put
-  end_stayed is = stays fits (rw is)
+  end_stayed other = stays fits (rw (stayed r.reach other))
 
   pub end_left : {t : Reaction} → r.reach ≡ Right → Makes (rule.ends Sent) r t → Makes rule.end_put r t
   unfolding rule.end_put

@@ -1,2 +1,3 @@
 -- What this crate's contracts and its callers' cite beside the rules.
+pub mod Ready
 pub mod Reaction

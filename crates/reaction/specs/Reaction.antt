@@ -1,14 +1,13 @@
 -- What an event does, in words, as the rule's reaction; and what each part of it must know and does by the rule.
-use Rattle.std.specs.Prelude.{ℕ, ◌+◌, ◌*◌, ◌%◌, ◌^◌, ◌≤◌, ◌<◌, ◌≡◌, Bool, true, false, cond, eqb}
-use Rattle.machine.specs.declared.Envelope.{Envelope}
-use Rattle.machine.specs.declared.Process.{Process}
+use Rattle.std.specs.Prelude.{ℕ, ◌+◌, ◌*◌, ◌%◌, ◌^◌, ◌≡◌, Bool, true, false, cond}
 use Rattle.machine.specs.declared.Reaction as rule-reaction
 use Rattle.machine.specs.declared.Traffic.{Traffic}
-use Rattle.machine.specs.Bytes.{bit}
-use Rattle.machine.specs.Fields.{Status, for, count}
+use Rattle.machine.specs.Bytes.{bit, bit_of}
+use Rattle.machine.specs.Fields.{Status, full, empty}
 use Rattle.machine.specs.Image.{pair_of}
 use Rattle.machine.specs.Events as rule
 use Rattle.record.specs.Words.{shown_process, shown_envelope, Tidy, TidyHeader}
+use Rattle.reaction.specs.declared.begun.Begun.{Begun}
 use Rattle.reaction.specs.declared.Reach.{Reach}
 use Rattle.reaction.specs.declared.Reach.TheVariants.{Own, Left, Right}
 use Rattle.reaction.specs.declared.Reaction.{Reaction}
@@ -22,7 +21,7 @@ Ruled = rule-reaction.Reaction
 -- the requests that go left, as two bits
 abbrev pub asks_in : Reach → ℕ
 asks_in Own = 0
-asks_in (Left asks) = asks
+asks_in (Left asks) = asks.bits
 asks_in Right = 0
 
 -- whether the envelope goes right
@@ -44,25 +43,14 @@ shown r =
 
 -- ---- what is known on the way
 
--- words in order, and requests for no more than full and empty
+-- words in order
 pub record Fits (r : Reaction) : Type 0 where
   pub own : Tidy r.own.word
   pub header : TidyHeader r.header
-  pub asks : asks_in r.reach < 4
 
--- and no neighbour reached yet
-pub record Begun (r : Reaction) : Type 0 where
-  pub fits : Fits r
-  pub here : r.reach ≡ Own
-
--- neither count is at the end of its byte, and a process that is marked is counted: a sound image's counts can go up
--- and down by one
-pub record Ready (e : Envelope) (p : Process) : Type 0 where
-  pub room : (s : Status) → count e.marked s < 255
-  pub counted : (s : Status) → for p.mark s ≡ true → 1 ≤ count e.marked s
-
-abbrev pub Counted : Reaction → Type 0
-Counted r = Ready (shown_envelope r.header) (shown_process r.own.word)
+-- what has begun, as a reaction: no neighbour is reached
+abbrev pub so_far : Begun → Reaction
+so_far b = record { own = b.own; header = b.header; reach = Own; started = b.started; outcome = b.outcome }
 
 -- ---- what is then so
 
@@ -72,10 +60,6 @@ pub record Makes (f : Ruled → Ruled) (r t : Reaction) : Type 0 where
   pub fits : Fits t
   pub size : t.header.word % 256 ≡ r.header.word % 256
   pub started : t.started ≡ r.started
-
--- no neighbour more is reached
-abbrev pub Keeps : Reaction → Reaction → Type 0
-Keeps r t = t.reach ≡ r.reach
 
 -- ---- its traffic
 
@@ -97,6 +81,8 @@ traffic_word t = 2 ^ 7 * t.requests + 2 ^ 56 * t.departures
 abbrev pub pair_for : Status → ℕ
 pair_for s = cond s 1 2
 
--- ask for a status as a number, 1 for full and 2 for empty; 0 is nothing
+-- ask for each status of a set, 1 for full and 2 for empty; 0 is nothing
 unfoldable pub asking : ℕ → Ruled → Ruled
-asking wish r = cond (eqb wish 0) r (rule.ask (eqb wish 1) r)
+asking wish r =
+    let first : Ruled = cond (bit_of wish 0) (rule.ask full r) r in
+    cond (bit_of wish 1) (rule.ask empty first) first

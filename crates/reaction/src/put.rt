@@ -1,150 +1,133 @@
-// What the put thread does with its news: ask and pass, mark, clear, forward, and the decision by stage. Each part
-// takes what the event has come to so far and hands it back with that part done.
-// Document 01, "The eight events", code 7.
+// What the put thread does with its news: ask and pass, mark, clear, forward, and the decision by stage. Mark and clear
+// hand back what they were given, changed; the others make the reaction of it. Document 01, "The eight events", code 7.
 ghost use Rattle.std.specs.Prelude.{◌≡◌, ◌+◌, ◌<◌};
 ghost use Rattle.machine.specs.Events as rule;
 ghost use Rattle.record.specs.Words.{stage_of};
-ghost use Rattle.reaction.specs.Reaction.{pair_for, asking, Fits, Begun, Counted, Makes, Keeps};
+ghost use Rattle.reaction.specs.Reaction.{asking, so_far, Fits, Makes};
 
+use super::begun::{Begun, Counted};
 use super::{Reach, Reaction};
 use machine::Outcome;
 use record::process;
-
-// Full or empty as one of two bits.
-fn pair_for(full: bool) -> u64
-    ensures { (result ≡ pair_for full) × (result < 4) }
-{
-    if full { 1 } else { 2 }
-}
+use record::statuses::Statuses;
 
 // Ask the left for what is wished, and pass on what the right has asked for, unless asked already.
-#[tactic(auto, using(crate::proofs::Bits::wants_few))]
-fn pass(wish: u64, r: Reaction) -> Reaction
-    requires { (wish < 3) × Begun r }
-    ensures { Makes (λ x. rule.pass (asking wish x)) r result }
+fn pass(wish: Statuses, step: Begun) -> Reaction
+    ensures { Makes (λ x. rule.pass (asking wish.bits x)) (so_far step) result }
 {
-    let own = r.own;
-    let header = r.header;
-    let outcome = r.outcome;
+    let own = step.own;
     let wanted = own.asked() | wish;
     Reaction {
-        own: own.with(wanted * process::ITSELF),
-        header: header,
-        reach: Reach::Left(wanted & (3 - own.itself())),
-        started: r.started,
-        outcome: outcome,
+        own: own.with(wanted.bits * process::ITSELF),
+        reach: Reach::Left(wanted & !own.itself()),
+        ..step.so_far()
     }
 }
 
 // Mark for the status that the envelope hasn't, unless that is marked.
-fn mark(r: Reaction) -> Reaction
-    requires { Begun r × Counted r }
-    ensures { Makes rule.mark r result × Keeps r result }
+fn mark(step: Counted) -> Begun
+    ensures { Makes rule.mark (so_far step.begun) (so_far result) }
 {
-    let own = r.own;
-    let header = r.header;
-    let new = pair_for(!header.is_full()) & (3 - own.marks());
-    let mut t = r;
-    t.own = own.with(new * process::MARK);
-    t.header = header.with_more(new);
-    t
+    let begun = step.begun;
+    let new = Statuses::only(!begun.header.is_full()) & !begun.own.marks();
+    Begun {
+        own: begun.own.with(new.bits * process::MARK),
+        header: begun.header.with_more(new),
+        started: begun.started,
+        outcome: begun.outcome,
+    }
 }
 
 // Clear for full or for empty: the mark goes, and its marker off.
-fn clear(full: bool, r: Reaction) -> Reaction
-    requires { Begun r × Counted r }
-    ensures { Makes (rule.clear full) r result × Keeps r result }
+fn clear(full: bool, step: Counted) -> Begun
+    ensures { Makes (rule.clear full) (so_far step.begun) (so_far result) }
 {
-    let own = r.own;
-    let header = r.header;
-    let pair = pair_for(full);
-    let mut t = r;
-    t.own = own.without(pair * process::MARK);
-    t.header = header.with_fewer(own.marks() & pair).without_markers(pair);
-    t
+    let begun = step.begun;
+    let one = Statuses::only(full);
+    Begun {
+        own: begun.own.without(one.bits * process::MARK),
+        header: begun
+            .header
+            .with_fewer(begun.own.marks() & one)
+            .without_markers(one),
+        started: begun.started,
+        outcome: begun.outcome,
+    }
 }
 
 // What an envelope that leaves takes along: have and all four asked bits.
 const TAKEN_ALONG: u64 = 0xF_0100;
 
 // Forward: the markers of the right's requests first; then the envelope leaves if its status is wanted.
-fn forward(r: Reaction) -> Reaction
-    requires { Begun r }
-    ensures { Makes rule.forward r result }
+fn forward(step: Begun) -> Reaction
+    ensures { Makes rule.forward (so_far step) result }
 {
-    let own = r.own;
-    let header = r.header;
-    let with_markers = header.with_markers(own.asked());
-    if with_markers.is_wanted() {
-        let outcome = r.outcome;
+    let own = step.own;
+    let header = step.header.with_markers(own.asked());
+    if header.is_wanted() {
         return Reaction {
             own: own.without(TAKEN_ALONG),
-            header: with_markers,
+            header,
             reach: Reach::Right,
-            started: r.started,
-            outcome: outcome,
+            ..step.so_far()
         };
     }
-    let mut t = r;
-    t.header = with_markers;
-    t
+    Reaction {
+        header,
+        ..step.so_far()
+    }
 }
 
 // Stages 0, 1 and 6.
-fn relay(r: Reaction) -> Reaction
-    requires { Begun r }
-    ensures { Makes rule.relay r result }
+fn relay(step: Begun) -> Reaction
+    ensures { Makes rule.relay (so_far step) result }
 {
-    let own = r.own;
-    if own.has_envelope() {
-        forward(r)
+    if step.own.has_envelope() {
+        forward(step)
     } else {
-        pass(0, r)
+        pass(Statuses::none(), step)
     }
 }
 
 // Stages 2 and 7, waiting for the envelope of one status: with it to the next stage.
-fn wait(full: bool, r: Reaction) -> Reaction
-    requires { Begun r × Counted r × (stage_of r.own.word < 255) }
-    ensures { Makes (rule.wait full (stage_of r.own.word + 1)) r result }
+fn wait(full: bool, step: Counted) -> Reaction
+    requires { stage_of step.begun.own.word < 255 }
+    ensures { Makes (rule.wait full (stage_of step.begun.own.word + 1)) (so_far step.begun) result }
 {
-    let own = r.own;
-    let header = r.header;
+    let own = step.begun.own;
+    let header = step.begun.header;
     if !own.has_envelope() {
-        return pass(pair_for(full), r);
+        return pass(Statuses::only(full), step.begun);
     }
     if header.is_full() == full {
-        let mut t = r;
-        t.own = own.with_stage(own.stage() + 1);
-        return t;
+        return Reaction {
+            own: own.with_stage(own.stage() + 1),
+            ..step.begun.so_far()
+        };
     }
-    forward(mark(r))
+    forward(mark(step))
 }
 
 // The put or the get is over.
+#[tactic(auto, using(crate::proofs::Stages::ends_made))]
 fn ends(outcome: Outcome, r: Reaction) -> Reaction
     requires { Fits r }
     ensures { Makes (rule.ends outcome) r result }
 {
-    let own = r.own;
-    let header = r.header;
-    let reach = r.reach;
     Reaction {
-        own: own.with_stage(0),
-        header: header,
-        reach: reach,
-        started: r.started,
-        outcome: outcome,
+        own: r.own.with_stage(0),
+        outcome,
+        ..r
     }
 }
 
 // Stage 5, after its forward: the put is over if the envelope left.
+#[tactic(auto, using(crate::proofs::Stages::end_left, crate::proofs::Stages::end_stayed))]
 fn end_put(r: Reaction) -> Reaction
     requires { Fits r }
     ensures { Makes rule.end_put r result }
 {
-    let reach = r.reach;
-    let Reach::Right = reach else {
+    let Reach::Right = r.reach else {
         return r;
     };
     ends(Outcome::Sent, r)
@@ -152,17 +135,16 @@ fn end_put(r: Reaction) -> Reaction
 
 // Internal: the put step, by the stage that it finds, with the envelope or without it. Stages 3, 4, 8 and 9 do no more,
 // and no sound image has one above 10.
-pub fn put_at(r: Reaction) -> Reaction
-    requires { Begun r × Counted r }
-    ensures { Makes (rule.put_at (stage_of r.own.word)) r result }
+pub fn put_at(step: Counted) -> Reaction
+    ensures { Makes (rule.put_at (stage_of step.begun.own.word)) (so_far step.begun) result }
 {
-    let stage = r.own.stage();
+    let stage = step.begun.own.stage();
     match stage {
-        0 | 1 | 6 => relay(r),
-        2 | 7 => wait(stage == 7, r),
-        5 => end_put(forward(clear(false, r))),
-        10 => ends(Outcome::Got, forward(clear(true, r))),
-        3..=4 | 8..=9 => r,
-        _ => r,
+        0 | 1 | 6 => relay(step.begun),
+        2 | 7 => wait(stage == 7, step),
+        5 => end_put(forward(clear(false, step))),
+        10 => ends(Outcome::Got, forward(clear(true, step))),
+        3..=4 | 8..=9 => step.begun.so_far(),
+        _ => step.begun.so_far(),
     }
 }

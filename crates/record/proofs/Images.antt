@@ -3,6 +3,7 @@
 -- the rules stay as they are. In order (Tidy) means that no bit is set that no rule names, as in every accepted image.
 -- Bits set, off or added act on each field of a word by itself, stage, flags, requests and marks, note (Fields,
 -- Changes, and Headers of the header); what that does to a field the checker computes at every value of it (Pairs).
+use Rattle.std.specs.Prelude.{Ok}
 use Prim.Native.Nat.{ℕ, ◌/◌, ◌%◌, ◌^◌, ◌≤◌, ◌<◌}
 use mathlib.Core.Path.{◌≡◌, refl, sym, ap, subst, ◌∙◌}
 use mathlib.Core.List.{List, [], ◌∷◌, ◌++◌}
@@ -11,7 +12,6 @@ use lib.ListN.{length, get_or, take, drop}
 use lib.Seq.{take_at}
 use borrow.Author.Tests.{eqb-true}
 use Rattle.machine.specs.declared.Process.{Process}
-use Rattle.machine.specs.declared.Verdict.TheVariants.{Fine}
 use Rattle.machine.specs.Bytes.{Bytes, little_endian_of, number, bytes, splice}
 use Rattle.machine.specs.Ring.{record_at}
 use Rattle.machine.specs.Image.{State, flag_bits, request_bits, envelope_in, process_bytes}
@@ -64,7 +64,7 @@ record_read s st i below low small =
     rw joined (record { is = shows fields ∙ process_is p; tidy = is_tidy fields few refl small })
 
 -- of an accepted image
-pub sound_read : (s : List ℕ) (i : ℕ) → image_verdict s ≡ Fine → Bytes s → i < size_in s
+pub sound_read : (s : List ℕ) (i : ℕ) → image_verdict s ≡ Ok tt → Bytes s → i < size_in s
     → Read (number s (record_at i) 8) (process_at (state_in s).processes i)
 sound_read s i fine small below =
     let image = image_fine s fine in
@@ -92,7 +92,7 @@ record_written s i w tidy =
 
 -- ---- the header read
 
-module _ (s : List ℕ) (fine : image_verdict s ≡ Fine) (small : Bytes s) where
+module _ (s : List ℕ) (fine : image_verdict s ≡ Ok tt) (small : Bytes s) where
   -- its two words
   abbrev words : Header
   words = record { word = number s 0 8; message = number s 8 8 }

@@ -1,7 +1,7 @@
 -- A neighbour's word with requests on its link, or with the envelope arriving, shows the rule's record of it.
 use Prim.Native.Nat.{ℕ, ◌*◌, ◌<◌}
 use mathlib.Core.Path.{◌≡◌, refl, ◌∙◌}
-use mathlib.Core.Bool.{true, ◌||◌}
+use mathlib.Core.Bool.{Bool, true, ◌||◌}
 use native.Mathlib.Omega.{arith}
 use lib.Bits.{bit_or, or_zero_r, or_lt}
 use Rattle.machine.specs.declared.Pair.{Pair}
@@ -22,7 +22,7 @@ use Rattle.record.proofs.Pairs.{Pairs, at, same, by_test}
 abbrev linked_in : ℕ → ℕ → ℕ
 linked_in asks r = bit_or r (asks * 64)
 
-abbrev link_with : ℕ → ℕ → Pair
+abbrev link_with : ℕ → ℕ → Pair Bool
 link_with asks r = either (pair_of r 6) (pair_of asks 0)
 
 linked : (asks : ℕ) → asks < 4 → (r : ℕ) → r < 256

@@ -2,6 +2,7 @@
 use Prim.Native.Nat.{ℕ, ◌<◌}
 use mathlib.Core.Path.{◌≡◌}
 use mathlib.Core.Bool.{Bool, true, false, ◌&&◌, beq}
+use lib.Bits.{bit_or, or_lt}
 use lib.Dec.{eqb}
 use Rattle.machine.specs.declared.Pair.{Pair}
 use Rattle.machine.specs.declared.Process.{Process}
@@ -13,40 +14,40 @@ use Rattle.machine.proofs.Laws.Lists.{every_at, agree, and_first, and_second, sa
 use Rattle.machine.proofs.Laws.Bits.{process_is}
 
 -- whether two pairs are the same
-abbrev pub same_pair : Pair → Pair → Bool
+abbrev pub same_pair : Pair Bool → Pair Bool → Bool
 same_pair p q = beq p.full q.full && beq p.empty q.empty
 
-same_pair_lem : (p q : Pair) → same_pair p q ≡ true → p ≡ q
+same_pair_lem : (p q : Pair Bool) → same_pair p q ≡ true → p ≡ q
 same_pair_lem p q e =
     let f = same_bool p.full q.full (and_first _ (beq p.empty q.empty) e) in
     let g = same_bool p.empty q.empty (and_second (beq p.full q.full) _ e) in
     λ i. record { full = f i; empty = g i }
 
 -- two pairs made of a byte that are the same at every value of it
-pub pair_test : (f g : ℕ → Pair) → every 256 (λ k. same_pair (f k) (g k)) ≡ true → (r : ℕ) → r < 256 → f r ≡ g r
+pub pair_test : (f g : ℕ → Pair Bool) → every 256 (λ k. same_pair (f k) (g k)) ≡ true → (r : ℕ) → r < 256 → f r ≡ g r
 pair_test f g test r h = same_pair_lem (f r) (g r) (every_at 256 (λ k. same_pair (f k) (g k)) test r h)
 
 -- a record with this byte 2 has these pairs: asked, itself, mark, link
-abbrev pub Pairs : ℕ → Pair → Pair → Pair → Pair → Type 0
+abbrev pub Pairs : ℕ → Pair Bool → Pair Bool → Pair Bool → Pair Bool → Type 0
 Pairs byte asked itself mark link =
     (stage flags note : ℕ)
     → process_from stage flags byte note
     ≡ process_of stage (bit_of flags 0) (bit_of flags 1) (bit_of flags 2) asked itself mark link note
 
 -- the two bits from bit k on, of each byte
-abbrev pub at : ℕ → ℕ → Pair
+abbrev pub at : ℕ → ℕ → Pair Bool
 at k byte = pair_of byte k
 
 -- a record of these pairs alone
-abbrev paired : Pair → Pair → Pair → Pair → Process
+abbrev paired : Pair Bool → Pair Bool → Pair Bool → Pair Bool → Process
 paired asked itself mark link = process_of 0 false false false asked itself mark link 0
 
 -- whether the byte that f makes has these pairs, at every value
-abbrev pub same : (ℕ → ℕ) → (ℕ → Pair) → (ℕ → Pair) → (ℕ → Pair) → (ℕ → Pair) → Bool
+abbrev pub same : (ℕ → ℕ) → (ℕ → Pair Bool) → (ℕ → Pair Bool) → (ℕ → Pair Bool) → (ℕ → Pair Bool) → Bool
 same f asked itself mark link =
     every 256 (λ k. eqb (f k) (request_bits (paired (asked k) (itself k) (mark k) (link k))))
 
-pub by_test : (f : ℕ → ℕ) (asked itself mark link : ℕ → Pair) → same f asked itself mark link ≡ true → (r : ℕ)
+pub by_test : (f : ℕ → ℕ) (asked itself mark link : ℕ → Pair Bool) → same f asked itself mark link ≡ true → (r : ℕ)
     → r < 256
     → Pairs (f r) (asked r) (itself r) (mark r) (link r)
 by_test f asked itself mark link test r h stage flags note =
@@ -55,3 +56,9 @@ by_test f asked itself mark link test r h stage flags note =
     rw is
     (λ i. process_of stage (bit_of flags 0) (bit_of flags 1) (bit_of flags 2) (p i).asked (p i).itself (p i).mark
     (p i).link note)
+
+-- ---- sets of statuses
+
+-- what is asked for or wished is a set too
+pub wants_few : (asked wish : ℕ) → asked < 4 → wish < 4 → bit_or asked wish < 4
+wants_few asked wish = or_lt 2 asked wish

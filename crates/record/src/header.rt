@@ -1,13 +1,14 @@
 // The header as two numbers of eight bytes, by value. In the first, byte 0 is N, byte 1 the status, byte 2 the markers,
-// bytes 3 and 4 the counts of the processes marked for full and for empty; the second is the message. Two bits that
-// stand for full and empty are a number, 0 to 3, with full as its lower bit. Document 01, "The image".
+// bytes 3 and 4 the counts of the processes marked for full and for empty; the second is the message. Document 01, "The
+// image".
 ghost use Rattle.std.specs.Prelude.{◌≡◌, ◌+◌, ◌-◌, ◌*◌, ◌/◌, ◌%◌, ◌^◌, ◌≤◌, ◌<◌, ◌++◌, length};
 ghost use Rattle.std.specs.Int.Bits.{bit_and, bit_or};
 ghost use Rattle.machine.specs.Bytes.{number, bytes as bytes_of, splice};
 ghost use Rattle.machine.specs.Events as rule;
 ghost use Rattle.record.specs.Words.{full_of, counted_as, TidyHeader, shown_envelope};
 
-use little_endian::{eight_at, put_word};
+use crate::statuses::Statuses;
+use little_endian::Word;
 
 // The header's two words.
 #[derive(Clone, Copy)]
@@ -38,8 +39,8 @@ impl Header {
             × (result.message ≡ number image.now 8 8) }
     {
         Header {
-            word: eight_at(image, 0),
-            message: eight_at(image, 8),
+            word: u64::read_at(image, 0),
+            message: u64::read_at(image, 8),
         }
     }
 
@@ -49,8 +50,8 @@ impl Header {
         ensures { image.new
             ≡ splice image.old 0 (bytes_of 8 self.word ++ bytes_of 8 self.message) }
     {
-        put_word(image, 0, self.word);
-        put_word(image, 8, self.message);
+        self.word.write_at(image, 0);
+        self.message.write_at(image, 8);
     }
 
     // Internal: N.
@@ -68,45 +69,43 @@ impl Header {
     }
 
     // Internal: with these markers set, and off.
-    pub fn with_markers(self, pair: u64) -> Header
-        requires { pair < 4 }
-        ensures { (result.word ≡ bit_or self.word (pair * 65536)) × (result.message ≡ self.message) }
+    pub fn with_markers(self, set: Statuses) -> Header
+        ensures { (result.word ≡ bit_or self.word (set.bits * 65536)) × (result.message ≡ self.message) }
     {
         Header {
-            word: self.word | pair * MARKERS,
+            word: self.word | set.bits * MARKERS,
             message: self.message,
         }
     }
 
-    pub fn without_markers(self, pair: u64) -> Header
-        requires { pair < 4 }
-        ensures { (result.word ≡ bit_and self.word (18446744073709551615 - pair * 65536))
+    pub fn without_markers(self, off: Statuses) -> Header
+        ensures { (result.word ≡ bit_and self.word (18446744073709551615 - off.bits * 65536))
             × (result.message ≡ self.message) }
     {
         Header {
-            word: self.word & (0xFFFF_FFFF_FFFF_FFFF - pair * MARKERS),
+            word: self.word & (0xFFFF_FFFF_FFFF_FFFF - off.bits * MARKERS),
             message: self.message,
         }
     }
 
     // Internal: with one more marked for full, for empty or for both, and with one fewer. By sums, since whether there
     // is a mark to count can't be foreseen: a branch took 3 % of a guided run.
-    pub fn with_more(self, pair: u64) -> Header
-        requires { (pair < 4) × (self.word < 2 ^ 40 - 2 ^ 32) }
-        ensures { (result.word ≡ self.word + counted_as pair) × (result.message ≡ self.message) }
+    pub fn with_more(self, marked: Statuses) -> Header
+        requires { self.word < 2 ^ 40 - 2 ^ 32 }
+        ensures { (result.word ≡ self.word + counted_as marked.bits) × (result.message ≡ self.message) }
     {
         Header {
-            word: self.word + (pair % 2 * MARKED_FULL + pair / 2 * MARKED_EMPTY),
+            word: self.word + (marked.bits % 2 * MARKED_FULL + marked.bits / 2 * MARKED_EMPTY),
             message: self.message,
         }
     }
 
-    pub fn with_fewer(self, pair: u64) -> Header
-        requires { (pair < 4) × (counted_as pair ≤ self.word) }
-        ensures { (result.word ≡ self.word - counted_as pair) × (result.message ≡ self.message) }
+    pub fn with_fewer(self, unmarked: Statuses) -> Header
+        requires { counted_as unmarked.bits ≤ self.word }
+        ensures { (result.word ≡ self.word - counted_as unmarked.bits) × (result.message ≡ self.message) }
     {
         Header {
-            word: self.word - (pair % 2 * MARKED_FULL + pair / 2 * MARKED_EMPTY),
+            word: self.word - (unmarked.bits % 2 * MARKED_FULL + unmarked.bits / 2 * MARKED_EMPTY),
             message: self.message,
         }
     }

@@ -2,5 +2,6 @@
 // "The image".
 #![tactic(auto)]
 
+pub mod statuses; // statuses.rt: full and empty as a set
 pub mod process; // process.rt: a process record
 pub mod header; // header.rt: the header

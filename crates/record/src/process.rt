@@ -1,13 +1,13 @@
 // A process record as one number of eight bytes, by value: byte 0 is the stage, byte 1 the flags, byte 2 the requests
-// and the marks, bytes 4 to 7 the note. Two bits that stand for full and empty are handed out as a number, 0 to 3, with
-// full as its lower bit. Document 01, "The image".
+// and the marks, bytes 4 to 7 the note. Document 01, "The image".
 ghost use Rattle.std.specs.Prelude.{◌≡◌, ◌+◌, ◌-◌, ◌*◌, ◌/◌, ◌≤◌, ◌<◌, length};
 ghost use Rattle.std.specs.Int.Bits.{bit_and, bit_or};
 ghost use Rattle.machine.specs.Bytes.{number, bytes as bytes_of, splice};
 ghost use Rattle.machine.specs.Ring.{record_at};
 ghost use Rattle.record.specs.Words.{stage_of, have_of, asked_of, itself_of, marks_of, note_of};
 
-use little_endian::{eight_at, put_word};
+use crate::statuses::Statuses;
+use little_endian::Word;
 
 // A struct around the word, and no struct of its bytes: those would be taken apart and put together again wherever two
 // ways meet, at twice the instructions.
@@ -36,13 +36,14 @@ pub const LINK: u64 = 0x40_0000;
 pub const NOTE: u64 = 0x1_0000_0000;
 
 impl Record {
-    // Internal: the record of process i.
+    // Internal: the record of process i. Reading and writing are no trait that the header has too: that has one place,
+    // and to name an offset in both would ask for more.
     pub fn at(image: &[u8], i: usize) -> Record
         requires { (i < 64) × (24 + 8 * i ≤ length image.now) }
         ensures { result.word ≡ number image.now (record_at i) 8 }
     {
         Record {
-            word: eight_at(image, 16 + 8 * i),
+            word: u64::read_at(image, 16 + 8 * i),
         }
     }
 
@@ -51,7 +52,7 @@ impl Record {
         requires { (i < 64) × (24 + 8 * i ≤ length image.old) }
         ensures { image.new ≡ splice image.old (record_at i) (bytes_of 8 self.word) }
     {
-        put_word(image, 16 + 8 * i, self.word);
+        self.word.write_at(image, 16 + 8 * i);
     }
 
     // Internal: the stage.
@@ -61,7 +62,7 @@ impl Record {
         self.word % 256
     }
 
-    // Internal: the record in another stage.
+    // Internal: the record in another stage. A number, since document 01 asks for a match over stage numbers.
     pub fn with_stage(self, stage: u64) -> Record
         requires { stage < 256 }
         ensures { result.word ≡ self.word / 256 * 256 + stage }
@@ -79,24 +80,24 @@ impl Record {
     }
 
     // Internal: what the right has asked for.
-    pub fn asked(self) -> u64
-        ensures { result ≡ asked_of self.word }
+    pub fn asked(self) -> Statuses
+        ensures { result.bits ≡ asked_of self.word }
     {
-        self.word / ASKED % 4
+        Statuses::lowest_of(self.word / ASKED)
     }
 
     // Internal: what the process has asked the left for itself.
-    pub fn itself(self) -> u64
-        ensures { result ≡ itself_of self.word }
+    pub fn itself(self) -> Statuses
+        ensures { result.bits ≡ itself_of self.word }
     {
-        self.word / ITSELF % 4
+        Statuses::lowest_of(self.word / ITSELF)
     }
 
     // Internal: what the process is marked for.
-    pub fn marks(self) -> u64
-        ensures { result ≡ marks_of self.word }
+    pub fn marks(self) -> Statuses
+        ensures { result.bits ≡ marks_of self.word }
     {
-        self.word / MARK % 4
+        Statuses::lowest_of(self.word / MARK)
     }
 
     // Internal: the note.
@@ -126,11 +127,10 @@ impl Record {
 
     // Internal: a left neighbour's record, with these requests on the link from its right; a like one that waits there
     // absorbs one.
-    pub fn requested(self, asks: u64) -> Record
-        requires { asks < 4 }
-        ensures { result.word ≡ bit_or self.word (asks * 4194304) }
+    pub fn requested(self, asks: Statuses) -> Record
+        ensures { result.word ≡ bit_or self.word (asks.bits * 4194304) }
     {
-        self.with(asks * LINK)
+        self.with(asks.bits * LINK)
     }
 
     // Internal: a right neighbour's record, with the envelope arriving from its left.

@@ -1,5 +1,6 @@
 -- A copy of an accepted image in another buffer is an accepted image of the same state: its bytes are those that the
 -- state is written as.
+use Rattle.std.specs.Prelude.{Ok}
 use Prim.Native.Nat.{ℕ, ◌≤◌}
 use mathlib.Core.Path.{◌≡◌, sym, ap, ap₂, ◌∙◌}
 use mathlib.Core.Bool.{Bool, true}
@@ -8,7 +9,6 @@ use native.Mathlib.Omega.{arith}
 use lib.ListN.{length, take}
 use lib.Seq.{take-append_seam}
 use Rattle.machine.specs.declared.Refusal.TheVariants as refusal
-use Rattle.machine.specs.declared.Verdict.TheVariants.{Fine}
 use Rattle.machine.specs.Bytes.{Bytes, part, splice}
 use Rattle.machine.specs.Ring.{image_length}
 use Rattle.machine.specs.Image.{size_in, state_in, image_bytes, image_with}
@@ -22,7 +22,7 @@ use Rattle.machine.proofs.Image.Stored.{length_state}
 use Rattle.machine.proofs.Laws.Refusals.{image_fine, image_whole}
 use Rattle.replay.specs.Playable.{Playable}
 
-module _ (s : List ℕ) (fine : image_verdict s ≡ Fine) (small : Bytes s) where
+module _ (s : List ℕ) (fine : image_verdict s ≡ Ok tt) (small : Bytes s) where
   -- the bytes of an accepted image are its state's
   own_bytes : part s 0 (image_length (size_in s)) ≡ image_bytes (state_in s)
   unfolding image_with splice
@@ -46,7 +46,7 @@ module _ (s : List ℕ) (fine : image_verdict s ≡ Fine) (small : Bytes s) wher
     spare_size : size_in spare ≡ size_in s
     spare_size = ap size_in spare_written ∙ size_written buffer (state_in s) ∙ length_state s
 
-    spare_fine : image_verdict spare ≡ Fine
+    spare_fine : image_verdict spare ≡ Ok tt
     spare_fine =
         let image = image_fine s fine in
         let st = state_in s in

@@ -1,6 +1,5 @@
 -- What must be known before the first events of a tape are performed, and what a ledger then has.
-use Rattle.std.specs.Prelude.{ℕ, ◌≤◌, ◌≡◌, List, length, take}
-use Rattle.machine.specs.declared.Verdict.TheVariants.{Fine}
+use Rattle.std.specs.Prelude.{ℕ, ◌≤◌, ◌≡◌, List, length, take, Ok}
 use Rattle.machine.specs.Bytes.{splice}
 use Rattle.machine.specs.Image.{State, size_in, state_in}
 use Rattle.machine.specs.Events.{Event}
@@ -13,8 +12,8 @@ use Rattle.replay.specs.declared.Played.{Played}
 
 -- both are accepted, and at least so many events are on the tape
 pub record Playable (image tape : List ℕ) (events : ℕ) : Type 0 where
-  pub image_fine : image_verdict image ≡ Fine
-  pub tape_fine : tape_verdict codes (size_in image) tape ≡ Fine
+  pub image_fine : image_verdict image ≡ Ok tt
+  pub tape_fine : tape_verdict codes (size_in image) tape ≡ Ok tt
   pub so_many : events ≤ events_on tape
 
 -- the first so many events of the tape

@@ -7,23 +7,45 @@
 ghost use Rattle.std.specs.Prelude.{◌≡◌, leb, length};
 ghost use Rattle.machine.specs.Image.{state_in, image_with};
 ghost use Rattle.machine.specs.Run.{no_counts, counts_from, after};
+ghost use Rattle.replay.specs.Played.{values_of};
 ghost use Rattle.replay.specs.Playable.{Playable, Tells, Recorded, first_events, first_records};
 
-use little_endian::wide;
 use machine::{Counts, Traffic};
-use span::copy;
+use numbers::Values;
+use span::put;
 use turns::{added_to, carried_to, turns};
 
 // What the events came to: their counts, and their traffic.
-#[derive(Clone, Copy)]
+#[derive(Clone, Copy, Debug, PartialEq, Eq)]
 pub struct Played {
     pub counts: Counts,
     pub traffic: Traffic,
 }
 
+impl Values for Played {
+    ghost values = { values_of };
+
+    fn words(self) -> [u64; 10] {
+        [
+            self.counts.puts,
+            self.counts.gets,
+            self.counts.fills,
+            self.counts.takes,
+            self.counts.sent,
+            self.counts.got,
+            self.counts.idle,
+            self.counts.records,
+            self.traffic.requests,
+            self.traffic.departures,
+        ]
+    }
+}
+
+// How many events a block has, but the last.
+const EVENTS: usize = 63;
+
 // Internal: the first `events` events of the tape, one after the other; a run asks for all. The ledger gets their
-// records where it has room for all. Each turn of the loop is a block: its events, 63 or what is left, stand 8 bytes
-// apart, and 8 bytes stand before them.
+// records where it has room for all. Block by block: its events, 63 or what is left, stand behind its head of 8 bytes.
 pub fn replay(image: &mut [u8], tape: &[u8], events: usize, ledger: &mut [u8]) -> Played
     requires { Playable image.old tape.now events }
     ensures answer { Tells (state_in image.old) (first_events tape.now events) result }
@@ -32,39 +54,22 @@ pub fn replay(image: &mut [u8], tape: &[u8], events: usize, ledger: &mut [u8]) -
     ensures records { Recorded (first_records image.old tape.now events)
         ledger.old ledger.new }
 {
-    let mut counts = Counts {
-        puts: 0,
-        gets: 0,
-        fills: 0,
-        takes: 0,
-        sent: 0,
-        got: 0,
-        idle: 0,
-        records: 0,
-    };
-    let mut traffic = Traffic {
-        requests: 0,
-        departures: 0,
-    };
-    let mut at = 0;
-    let mut k = 0;
-    while k < events {
-        let most = k + 63;
-        let end = if events < most { events } else { most };
-        at += 8;
-        let block = turns(
+    let mut counts = Counts::default();
+    let mut traffic = Traffic::default();
+    let (blocks, _) = tape.as_chunks::<512>();
+    let blocks = &blocks[..events.div_ceil(EVENTS)];
+    for (b, block) in blocks.iter().enumerate() {
+        let first = EVENTS * b;
+        let used = (events - first).min(EVENTS);
+        let word = turns(
             image,
-            tape,
-            at,
-            k,
-            end,
+            &block[8..8 + 8 * used],
+            first,
             ledger,
             12 * counts.records as usize,
         );
-        counts = added_to(counts, block);
-        traffic = carried_to(traffic, block);
-        at += 8 * (end - k);
-        k = end;
+        counts = added_to(counts, word);
+        traffic = carried_to(traffic, word);
     }
     Played {
         counts: counts,
@@ -74,6 +79,7 @@ pub fn replay(image: &mut [u8], tape: &[u8], events: usize, ledger: &mut [u8]) -
 
 // How many records the first `events` events of the tape have, performed on a copy of the image, with a ledger that
 // takes none.
+#[tactic(auto, using(machine::proofs::Laws::Refusals::image_fine))]
 fn measure(image: &[u8], tape: &[u8], events: usize) -> u64
     requires { Playable image.now tape.now events }
     ensures { result
@@ -81,13 +87,14 @@ fn measure(image: &[u8], tape: &[u8], events: usize) -> u64
 {
     let mut spare = [0u8; 528];
     let mut none = [0u8; 1];
-    let bytes = 16 + 8 * wide(image[0]);
-    copy(image, 0, &mut spare, 0, bytes);
+    let bytes = 16 + 8 * usize::from(image[0]);
+    put(&mut spare, 0, &image[..bytes]);
     let played = replay(&mut spare, tape, events, &mut none);
     played.counts.records
 }
 
 // Internal: whether a ledger of so many bytes has room for the records of the first `events` events, 12 bytes each.
+#[tactic(auto, using(crate::proofs::Room::room_at_once))]
 pub fn has_room(image: &[u8], tape: &[u8], events: usize, bytes: usize) -> bool
     requires { Playable image.now tape.now events }
     ensures { result ≡ leb (length (first_records image.now tape.now events)) bytes }

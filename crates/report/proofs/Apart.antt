@@ -1,4 +1,5 @@
 -- What an answer tells, taken apart: by its number it is done or refused, and its values are then those of the rule.
+use Rattle.std.specs.Prelude.{Err, Ok}
 use Prim.Native.Nat.{ℕ}
 use mathlib.Core.Path.{◌≡◌, refl, sym, ap, ◌∙◌}
 use mathlib.Core.Bool.{Bool}
@@ -9,8 +10,7 @@ use lib.Dec.{eqb}
 use Rattle.machine.specs.declared.Counts.{Counts}
 use Rattle.machine.specs.declared.Traffic.{Traffic}
 use Rattle.machine.specs.declared.Refusal.{Refusal}
-use Rattle.machine.specs.declared.Verdict.{Verdict}
-use Rattle.machine.specs.declared.Verdict.TheVariants.{Fine, Refused}
+use Rattle.machine.specs.Verdict.{Verdict}
 use Rattle.machine.specs.Bytes.{bit}
 use Rattle.machine.specs.Run.{count_values}
 use Rattle.machine.specs.Traffic.{traffic_values}
@@ -27,20 +27,20 @@ pub value_same : {a b : Answer} (k : ℕ) → a ≡ b → get_or a.values k 0 �
 value_same k e = ap (λ (a : Answer). get_or a.values k 0) e
 
 -- a refused answer: its line is that of the rule's refusal
-pub refused_line : (v : Verdict) (values text : List ℕ) (r : Refusal) → answer (Refused r) [] ≡ answer v values
+pub refused_line : (v : Verdict) (values text : List ℕ) (r : Refusal) → answer (Err r) [] ≡ answer v values
     → refusal_line r ≡ text_by v text
 unfolding refusal_line
-refused_line Fine values text r e = absurd (omega (arith, number_same e, number_range r))
-refused_line (Refused q) values text r e = rw (number_same e, value_same 0 e)
+refused_line (Ok _) values text r e = absurd (omega (arith, number_same e, number_range r))
+refused_line (Err q) values text r e = rw (number_same e, value_same 0 e)
 
 -- an answer that is done: nothing refuses
-pub done_fine : (v : Verdict) {told : List ℕ} (values : List ℕ) → answer Fine told ≡ answer v values → v ≡ Fine
-done_fine Fine values e = refl
-done_fine (Refused r) values e = absurd (omega (arith, number_same e, number_range r))
+pub done_fine : (v : Verdict) {told : List ℕ} (values : List ℕ) → answer (Ok tt) told ≡ answer v values → v ≡ Ok tt
+done_fine (Ok _) values e = refl
+done_fine (Err r) values e = absurd (omega (arith, number_same e, number_range r))
 
 -- the counts are those of the rule
 pub same_counts : (c d : Counts) (t u : Traffic)
-    → answer Fine (count_values c ++ traffic_values t) ≡ answer Fine (count_values d ++ traffic_values u)
+    → answer (Ok tt) (count_values c ++ traffic_values t) ≡ answer (Ok tt) (count_values d ++ traffic_values u)
     → c ≡ d
 same_counts c d t u e =
     λ i.
@@ -56,5 +56,5 @@ same_counts c d t u e =
     }
 
 -- yes or no
-pub same_bit : (a b : Bool) → answer Fine (bit a ∷ []) ≡ answer Fine (bit b ∷ []) → b ≡ a
+pub same_bit : (a b : Bool) → answer (Ok tt) (bit a ∷ []) ≡ answer (Ok tt) (bit b ∷ []) → b ≡ a
 same_bit a b e = sym (bit_is b (bit b) refl) ∙ ap (λ (k : ℕ). eqb k 1) (sym (value_same 0 e)) ∙ bit_is a (bit a) refl

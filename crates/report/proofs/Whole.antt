@@ -1,50 +1,45 @@
 -- The whole input: N and home are tested by the fresh ring call, whose buffer has room for every ring, so that it can
 -- refuse nothing else; then the number of blocks; then the run does what is left, from the fresh ring (Ran). So what is
 -- refused is the rule's first, and else the text is the rules' own.
-use Prim.Native.Nat.{ℕ, ◌-◌, ◌≤◌, ◌<◌, min}
+use Rattle.std.specs.Prelude.{Err, Ok}
+use Prim.Native.Nat.{ℕ, ◌≤◌, ◌<◌}
 use mathlib.Core.Path.{◌≡◌, refl, sym, ap, ap₂, ◌∙◌}
 use mathlib.Core.Bool.{Bool, true, false}
 use mathlib.Core.List.{List, []}
-use mathlib.Core.Logic.{◌⊎◌, inl, inr}
 use native.Mathlib.Omega.{arith}
-use lib.ListN.{length, take, drop, length-drop, drop_of_length-le}
-use lib.Seq.{take_all}
+use lib.ListN.{length, length-drop}
 use borrow.Author.Tests.{le-leb}
 use Rattle.machine.specs.declared.Refusal.{Refusal}
 use Rattle.machine.specs.declared.Refusal.TheVariants as refusal
-use Rattle.machine.specs.declared.Verdict.{Verdict}
-use Rattle.machine.specs.declared.Verdict.TheVariants.{Fine, Refused}
+use Rattle.machine.specs.Verdict.{Verdict}
 use Rattle.machine.specs.Ring.{size_fits, image_length}
 use Rattle.machine.specs.Image.{size_in, state_in}
 use Rattle.machine.specs.Fresh.{fresh_state}
 use Rattle.machine.specs.Refusals.{or_else, unless, codes, size_verdict, home_verdict, room_verdict, image_verdict}
 use Rattle.machine.specs.Refusals.{tape_verdict}
-use Rattle.machine.specs.Answers.{answer, fresh_verdict, fresh_answer, fresh_image, run_events}
+use Rattle.machine.specs.Answers.{answer, in_numbers, fresh_verdict, fresh_answer, fresh_image, run_events}
 use Rattle.machine.specs.Report.{few_verdict, report_verdict, ran_text, refusal_line, text_by, report_text}
 use Rattle.machine.specs.Report.{size_given, home_given, tape_given}
-use Rattle.machine.proofs.Laws.Bytes.{lt_or_ge}
 use Rattle.machine.proofs.Laws.Refusals.{first_fine, second_fine, size_fits_lem}
 use Rattle.machine.proofs.Image.Fresh.{fresh_size, fresh_state_lem, fresh_accepted}
 use Rattle.machine.proofs.Report.{too_long}
-use Rattle.image.specs.declared.FreshAnswer.{FreshAnswer}
-use Rattle.image.specs.declared.FreshAnswer.TheVariants as fresh-answer
-use Rattle.image.specs.Fresh as fresh
+use Rattle.numbers.specs.Values.{none}
 use Rattle.report.proofs.Apart.{refused_line, done_fine}
 
 -- ---- the first of the tests that refuses
 
 -- of two tests before others
 first_refuses : (v w x : Verdict) (text values : List ℕ) (r : Refusal)
-    → answer (Refused r) [] ≡ answer (or_else v w) values
+    → answer (Err r) [] ≡ answer (or_else v w) values
     → refusal_line r ≡ text_by (or_else v (or_else w x)) text
-first_refuses (Refused q) w x text values r e = refused_line (Refused q) values text r e
-first_refuses Fine (Refused q) x text values r e = refused_line (Refused q) values text r e
-first_refuses Fine Fine x text values r e = refused_line Fine values (text_by x text) r e
+first_refuses (Err q) w x text values r e = refused_line (Err q) values text r e
+first_refuses (Ok _) (Err q) x text values r e = refused_line (Err q) values text r e
+first_refuses (Ok _) (Ok _) x text values r e = refused_line (Ok tt) values (text_by x text) r e
 
 -- a test after two that pass
-or_fine : (v : Verdict) → or_else v Fine ≡ v
-or_fine Fine = refl
-or_fine (Refused r) = refl
+or_fine : (v : Verdict) → or_else v (Ok tt) ≡ v
+or_fine (Ok _) = refl
+or_fine (Err r) = refl
 
 -- a buffer of 528 bytes has room for every ring
 room_enough : (n home : ℕ) (buffer : List ℕ) → 528 ≤ length buffer
@@ -60,39 +55,11 @@ room_enough n home buffer long = go (size_fits n) refl
         let size = size_fits_lem n e in
         rw (le-leb (image_length n) (length buffer) (omega (arith, size.most))) (or_fine (home_verdict n home))
 
--- ---- the blocks
-
--- a shorter input has none
-blocks_begin : (input : List ℕ) → drop (min 2 (length input)) input ≡ tape_given input
-blocks_begin input = go (lt_or_ge (length input) 2)
-  where
-    go : (length input < 2) ⊎ (2 ≤ length input) → drop (min 2 (length input)) input ≡ drop 2 input
-    go (inl short) =
-        let all : length input ≤ min 2 (length input) = omega arith in
-        let more : length input ≤ 2 = omega arith in
-        drop_of_length-le input all ∙ sym (drop_of_length-le input more)
-    go (inr long) =
-        let two : min 2 (length input) ≡ 2 = omega arith in
-        ap (λ (k : ℕ). drop k input) two
-
--- what is left of the input from there on
-pub blocks_given : (input : List ℕ) {from : ℕ} → from ≡ min 2 (length input)
-    → take (length input - from) (drop from input) ≡ tape_given input
-blocks_given input {from} is =
-    take_all (length input - from) (drop from input) (rw (length-drop from input) (omega arith))
-    ∙ ap (λ (k : ℕ). drop k input) is
-    ∙ blocks_begin input
-
--- has room for 64 of them at most
-pub blocks_few : (input : List ℕ) {from : ℕ} → from ≡ min 2 (length input) → length input ≤ 32770
-    → length (take (length input - from) (drop from input)) ≤ 32768
-blocks_few input is few = rw (blocks_given input is, length-drop 2 input) (omega arith)
-
 -- ---- the ways
 
 module _ (input buffer : List ℕ) (long : 528 ≤ length buffer) {n home : ℕ} (is_n : n ≡ size_given input)
-    (is_home : home ≡ home_given input) (a : FreshAnswer) (says : fresh.in_numbers a ≡ fresh_answer n home buffer) where
-  told_as : fresh.in_numbers a ≡ answer
+    (is_home : home ≡ home_given input) (a : Verdict) (says : in_numbers none a ≡ fresh_answer n home buffer) where
+  told_as : in_numbers none a ≡ answer
       (or_else (size_verdict (size_given input)) (home_verdict (size_given input) (home_given input))) []
   unfolding fresh_answer
   told_as =
@@ -101,21 +68,21 @@ module _ (input buffer : List ℕ) (long : 528 ≤ length buffer) {n home : ℕ}
       ∙ rw (is_n, is_home)
 
   -- N or home is refused
-  pub fresh_refused : {q r : Refusal} → a ≡ fresh-answer.Refused q → r ≡ fresh.refusal_of a
+  pub fresh_refused : {r : Refusal} → a ≡ Err r
       → refusal_line r ≡ report_text input
   unfolding report_text report_verdict
-  fresh_refused {r = r} is found =
+  fresh_refused {r} is =
       first_refuses (size_verdict (size_given input)) (home_verdict (size_given input) (home_given input)) _ _ [] r
-      (rw (found ∙ ap fresh.refusal_of is) (sym (ap fresh.in_numbers is) ∙ told_as))
+      (sym (ap (in_numbers none) is) ∙ told_as)
 
-  module _ (is : a ≡ fresh-answer.Done) where
-    both_fine : or_else (size_verdict (size_given input)) (home_verdict (size_given input) (home_given input)) ≡ Fine
-    both_fine = done_fine _ [] (sym (ap fresh.in_numbers is) ∙ told_as)
+  module _ (is : a ≡ Ok tt) where
+    both_fine : or_else (size_verdict (size_given input)) (home_verdict (size_given input) (home_given input)) ≡ Ok tt
+    both_fine = done_fine _ [] (sym (ap (in_numbers none) is) ∙ told_as)
 
-    size_fine : size_verdict (size_given input) ≡ Fine
+    size_fine : size_verdict (size_given input) ≡ Ok tt
     size_fine = first_fine _ _ both_fine
 
-    home_fine : home_verdict (size_given input) (home_given input) ≡ Fine
+    home_fine : home_verdict (size_given input) (home_given input) ≡ Ok tt
     home_fine = second_fine (size_verdict (size_given input)) _ both_fine
 
     -- too many blocks
@@ -123,11 +90,11 @@ module _ (input buffer : List ℕ) (long : 528 ≤ length buffer) {n home : ℕ}
     length_refused more = sym (too_long input more ∙ rw (size_fine, home_fine))
 
     -- the image is the fresh ring's
-    fine : fresh_verdict n home buffer ≡ Fine
+    fine : fresh_verdict n home buffer ≡ Ok tt
     fine = room_enough n home buffer long ∙ rw (is_n, is_home) both_fine
 
     module _ {image : List ℕ} (wrote : image ≡ fresh_image n home buffer) where
-      pub image_accepted : image_verdict image ≡ Fine
+      pub image_accepted : image_verdict image ≡ Ok tt
       image_accepted = ap image_verdict wrote ∙ fresh_accepted n home buffer fine
 
       size : size_in image ≡ size_given input

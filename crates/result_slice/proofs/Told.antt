@@ -4,17 +4,18 @@
 -- tests, else 10, and every slice stays. A ledger's or an output's test comes last and can only be refused with 10, so
 -- it decides nothing there (numbers/proofs/Verdicts). Each way through a call is then a law over what lower functions
 -- answered (ring_host/proofs/Ways, ring_tools/proofs/Ways).
+use Rattle.std.specs.Prelude.{Err, Ok}
 use Prim.Native.Nat.{ℕ, ◌≤◌, ◌<◌}
-use mathlib.Core.Path.{◌≡◌, ◌∙◌}
+use mathlib.Core.Path.{◌≡◌, refl, sym, ◌∙◌}
 use mathlib.Core.Bool.{true, false, and-false}
-use mathlib.Core.List.{List, [], ◌∷◌}
+use mathlib.Core.List.{List, [], ◌∷◌, ◌++◌}
 use native.Mathlib.Omega.{arith}
-use lib.ListN.{length}
+use lib.ListN.{length, drop}
 use lib.Dec.{eqb}
 use borrow.Author.Tests.{le-leb, lt-leb, ne_eqb}
 use Rattle.machine.specs.declared.Refusal.{Refusal}
-use Rattle.machine.specs.declared.Verdict.{Verdict}
-use Rattle.machine.specs.declared.Verdict.TheVariants.{Fine, Refused}
+use Rattle.machine.specs.Verdict.{Verdict}
+use Rattle.std.specs.Array.{IsFirstChunk}
 use Rattle.machine.specs.Bytes.{splice}
 use Rattle.machine.specs.Refusals.{number_of, place_of}
 use Rattle.machine.specs.Answers.{Answer, answer}
@@ -48,30 +49,36 @@ module _ (result : List ℕ) (room : 80 ≤ length result) where
   answered a wrote = (rw (takes, and-false (eqb a.number 0)), rw takes wrote)
 
   -- done, with its values
-  pub done_told : {a : Answer} {t : List ℕ} (values : List ℕ) → answer Fine values ≡ a
+  pub done_told : {a : Answer} {t : List ℕ} (values : List ℕ) → answer (Ok tt) values ≡ a
       → t ≡ splice result 0 (result_bytes values)
       → Tells a result 0 t
-  done_told values is wrote = rw (← is) (answered (answer Fine values) wrote)
+  done_told values is wrote = rw (← is) (answered (answer (Ok tt) values) wrote)
 
   -- refused, with its place
-  pub refused_told : {a : Answer} {n : ℕ} {t : List ℕ} (r : Refusal) → answer (Refused r) [] ≡ a → n ≡ number_of r
+  pub refused_told : {a : Answer} {n : ℕ} {t : List ℕ} (r : Refusal) → answer (Err r) [] ≡ a → n ≡ number_of r
       → t ≡ splice result 0 (result_bytes (place_of r ∷ []))
       → Tells a result n t
-  refused_told r is number wrote = rw (← is, number) (answered (answer (Refused r) []) wrote)
+  refused_told r is number wrote = rw (← is, number) (answered (answer (Err r) []) wrote)
 
-  module _ (before : List ℕ) {done t : List ℕ} (left : t ≡ done) where
-    leaves : (a : Answer) {n : ℕ} {u : List ℕ} → Tells a result n u → Leaves a result before done n t u
-    leaves a tells = (tells.0, (lent_as_left before left, tells.1))
+-- the same by the array of the first 80 bytes, which the library lends, with what is told in it and the rest as it was
+module _ (result : List ℕ) {lent : List ℕ} (first : IsFirstChunk result lent 80) where
+  pub told_first : {a b : Answer} {n : ℕ} {told : List ℕ} → a ≡ b → n ≡ a.number → told ≡ result_bytes a.values
+      → length told ≡ 80
+      → Tells b result n (told ++ drop 80 result)
+  unfolding splice
+  told_first {a} {b} {n} {told} is number wrote long =
+      let there : splice result 0 (result_bytes a.values) ≡ told ++ drop 80 result = rw (← wrote, long) refl in
+      let tells = answered result first.enough a (sym there) in
+      rw (← is) (number ∙ tells.0, tells.1)
 
-    pub done_left : {a : Answer} {u : List ℕ} (values : List ℕ) → answer Fine values ≡ a
-        → u ≡ splice result 0 (result_bytes values)
-        → Leaves a result before done 0 t u
-    done_left values is wrote = leaves _ (done_told values is wrote)
-
-    pub refused_left : {a : Answer} {n : ℕ} {u : List ℕ} (r : Refusal) → answer (Refused r) [] ≡ a → n ≡ number_of r
-        → u ≡ splice result 0 (result_bytes (place_of r ∷ []))
-        → Leaves a result before done n t u
-    refused_left r is number wrote = leaves _ (refused_told r is number wrote)
+  -- with another slice, which the call itself leaves as `done`
+  pub told_left : {a b : Answer} (before : List ℕ) {done t told : List ℕ} {n : ℕ} → t ≡ done → a ≡ b
+      → n ≡ a.number → told ≡ result_bytes a.values
+      → length told ≡ 80
+      → Leaves b result before done n t (told ++ drop 80 result)
+  told_left before left is number wrote long =
+      let tells = told_first is number wrote long in
+      (tells.0, (lent_as_left result first.enough before left, tells.1))
 
 -- ---- fewer
 
@@ -85,8 +92,8 @@ module _ (result : List ℕ) (short : length result < 80) where
 
   number_short : (v : Verdict) (values : List ℕ) → number_of (refusal_of v) ≡ returned (answer v values) result
   unfolding returned
-  number_short Fine values = rw takes_not
-  number_short (Refused r) values =
+  number_short (Ok _) values = rw takes_not
+  number_short (Err r) values =
       let some : eqb (number_of r) 0 ≡ false = ne_eqb (number_of r) 0 (λ none. omega (arith, (number_range r).0)) in
       rw some
 

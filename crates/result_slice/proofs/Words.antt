@@ -1,16 +1,17 @@
--- The words of a result slice: words written one after the other are one splice; and zeros up to byte 80 are words of
--- 0, so up to ten values are told as ten words.
+-- The words of a result slice: ten times eight bytes, joined, are ten words; and zeros up to byte 80 are words of 0, so
+-- up to ten values are told as ten words.
 use Prim.Native.Nat.{ℕ, zero, suc, ◌+◌, ◌-◌, ◌*◌, ◌≤◌, ◌<◌}
 use mathlib.Core.Path.{◌≡◌, refl, sym, ap, ◌∙◌}
 use mathlib.Core.List.{List, [], ◌∷◌, ◌++◌, append_assoc}
 use native.Mathlib.Omega.{arith}
-use native.Mathlib.Numerals.{add-one}
-use lib.ListN.{length, get_or, drop, replicate, length-append, replicate-append-replicate}
-use lib.Seq.{drop-cons, drop-length}
+use lib.ListN.{length, get_or, replicate, length-append, replicate-append-replicate}
+use Rattle.std.specs.List.{flat_map}
+use Rattle.std.specs.Array.{IsMapOf}
+use Rattle.std.specs.Fn.{Mut, Called}
 use Rattle.machine.specs.Bytes.{bytes, splice}
+use Rattle.numbers.specs.Values.{InTen}
 use Rattle.machine.specs.Host.{words_of, result_bytes}
-use Rattle.machine.proofs.Laws.Bytes.{length_bytes, splice_next}
-use Rattle.machine.proofs.Laws.Splices.{splice_none}
+use Rattle.machine.proofs.Laws.Bytes.{length_bytes}
 
 -- ---- words
 
@@ -34,21 +35,30 @@ words_of_zero (suc k) =
     let eight : 8 * suc k ≡ 8 + 8 * k = omega arith in
     rw (words_of_zero k, eight) (replicate-append-replicate {A = ℕ} 8 (8 * k) 0)
 
--- ---- written one after the other: what is left to write, where it goes, gives the whole
+-- ---- eight bytes each, made by a closure and joined by the library
 
-module _ (s ws : List ℕ) (k : ℕ) where
-  pub words_more : k < length ws → 8 * k ≤ length s
-      → splice (splice s (8 * k) (bytes 8 (get_or ws k 0))) (8 * (k + 1)) (words_of (drop (k + 1) ws))
-      ≡ splice s (8 * k) (words_of (drop k ws))
-  unfolding words_of
-  words_more more room =
-      let word = bytes 8 (get_or ws k 0) in
-      let next : 8 * (k + 1) ≡ 8 * k + length word = omega (arith, length_bytes 8 (get_or ws k 0)) in
-      rw (next, splice_next s (8 * k) word (words_of (drop (k + 1) ws)) room, add-one k, drop-cons ws k 0 more)
+joined : (ws : List ℕ) (eights : List (List ℕ)) → length eights ≡ length ws
+    → ((i : ℕ) → i < length ws → get_or eights i [] ≡ bytes 8 (get_or ws i 0))
+    → flat_map (λ eight. eight) eights ≡ words_of ws
+unfolding words_of
+joined [] [] same each = refl
+joined [] (eight ∷ eights) same each = absurd (omega (arith, same))
+joined (w ∷ ws) [] same each = absurd (omega (arith, same))
+joined (w ∷ ws) (eight ∷ eights) same each =
+    let here : eight ≡ bytes 8 w = each 0 (omega arith) in
+    let rest : flat_map (λ eight. eight) eights ≡ words_of ws =
+    joined ws eights (omega (arith, same)) (λ i below. each (suc i) (omega (arith, below))) in
+    rw (here, rest) refl
 
-  pub words_end : k ≡ length ws → splice s (8 * k) (words_of (drop k ws)) ≡ s
-  unfolding words_of
-  words_end all = rw (all, drop-length ws) (sym (splice_none s (8 * length ws)))
+-- where each call of the closure gives a word's bytes
+pub words_joined : {F : Type 0} (g : Mut F (ℕ × Unit {0}) (List ℕ)) {f : F} {n : ℕ} (ws : List ℕ)
+    {eights : List (List ℕ)} → length ws ≡ n → IsMapOf g f ws eights n
+    → ((p : F) (w : ℕ) (eight : List ℕ) (q : F) → Called g p (w, tt) eight q → eight ≡ bytes 8 w)
+    → flat_map (λ eight. eight) eights ≡ words_of ws
+words_joined g {f} {n} ws {eights} long made each =
+    joined ws eights (omega (arith, long, made.long)) (λ i below.
+    let called = made.at i 0 [] (omega (arith, below, long)) in
+    each called.0 _ _ called.1 called.2)
 
 -- ---- what a call tells
 
@@ -60,6 +70,11 @@ values_in_ten values few =
     let rest : 80 - length (words_of values) ≡ 8 * (10 - length values) = omega (arith, length_words values) in
     rw (rest, words_append values (replicate (10 - length values) 0), words_of_zero (10 - length values))
 
+-- the same of ten words that hold them
+pub values_told : (values : List ℕ) {words : List ℕ} → InTen values words → words_of words ≡ result_bytes values
+values_told values ten = rw ten.1 (values_in_ten values ten.0)
+
+-- and where they are written over a longer slice
 pub told_in_ten : (result values : List ℕ) {t : List ℕ} → length values ≤ 10
     → t ≡ splice result 0 (words_of (values ++ replicate (10 - length values) 0))
     → t ≡ splice result 0 (result_bytes values)

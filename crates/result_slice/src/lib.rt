@@ -2,46 +2,41 @@
 // suite's host.
 #![tactic(auto)]
 
-ghost use Rattle.std.specs.Prelude.{◌≡◌, [], ◌∷◌, ◌≤◌, length};
-ghost use Rattle.machine.specs.Bytes.{splice};
-ghost use Rattle.machine.specs.Refusals.{number_of, place_of};
+ghost use Rattle.std.specs.Prelude.{◌≡◌, length};
+ghost use Rattle.machine.specs.Refusals.{number_of};
+ghost use Rattle.machine.specs.Answers.{in_numbers};
 ghost use Rattle.machine.specs.Host.{words_of, result_bytes};
 ghost use Rattle.numbers.specs.Verdicts.{refusal_of};
 
-use little_endian::put_word;
-use machine::{Refusal, Verdict};
-use numbers::{number_of, place_of, refusal_of};
+use machine::{Answer, Verdict};
+use numbers::{Values, refusal_of};
 
-// A result slice has at least so many bytes.
+// A result slice has at least so many bytes: a call lends an array of the first of them, so that their number is the
+// type's. One function for all the calls would take two closures, the tests' and the call's, and both would borrow the
+// image at once; so they share `reply` and `short`.
 pub const ROOM: usize = 80;
 
-// Internal: ten words, written over the first 80 bytes.
-pub fn tell(res: &mut [u8], words: &[u64; 10])
-    requires { (80 ≤ length res.old) × (length words.now ≡ 10) }
-    ensures { res.new ≡ splice res.old 0 (words_of words.now) }
+// Internal: ten words, the lowest byte of each first, are what the 80 bytes hold.
+pub fn tell(res: &mut [u8; ROOM], words: &[u64; 10])
+    ensures { res.new ≡ words_of words.now }
 {
-    for k in 0..10 {
-        put_word(res, 8 * k, words[k]);
-    }
+    res.copy_from_slice(words.map(u64::to_le_bytes).as_flattened());
 }
 
-// Internal: one value, and words of 0 after it.
-pub fn tell_one(res: &mut [u8], value: u64)
-    requires { 80 ≤ length res.old }
-    ensures { res.new ≡ splice res.old 0 (result_bytes (value ∷ [])) }
+// Internal: a call's answer told: what it is done with, and 0 returned; or the refusal's place, and its number
+// returned.
+pub fn reply<T: Values>(res: &mut [u8; ROOM], answer: Answer<T>) -> u64
+    ensures number { result ≡ (in_numbers T.values answer).number }
+    ensures told { res.new ≡ result_bytes (in_numbers T.values answer).values }
+    ensures room { length res.new ≡ 80 }
 {
-    let words = [value, 0, 0, 0, 0, 0, 0, 0, 0, 0];
-    tell(res, &words);
-}
-
-// Internal: a refusal handed on: its place told, its number returned.
-pub fn refused(res: &mut [u8], refusal: Refusal) -> u64
-    requires { 80 ≤ length res.old }
-    ensures number { result ≡ number_of refusal }
-    ensures told { res.new ≡ splice res.old 0 (result_bytes (place_of refusal ∷ [])) }
-{
-    tell_one(res, place_of(refusal) as u64);
-    number_of(refusal) as u64
+    let Ok(done) = answer else {
+        let refusal = answer.unwrap_err();
+        tell(res, &refusal.place().words());
+        return refusal.number();
+    };
+    tell(res, &done.words());
+    0
 }
 
 // Internal: the number returned by a call whose result slice is too short, by the verdict of its tests: its refusal,
@@ -49,5 +44,5 @@ pub fn refused(res: &mut [u8], refusal: Refusal) -> u64
 pub fn short(verdict: Verdict) -> u64
     ensures { result ≡ number_of (refusal_of verdict) }
 {
-    number_of(refusal_of(verdict)) as u64
+    refusal_of(verdict).number()
 }

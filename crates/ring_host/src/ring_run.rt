@@ -3,8 +3,8 @@ ghost use Rattle.std.specs.Prelude.{◌≡◌};
 ghost use Rattle.machine.specs.Answers.{run_answer, run_image, run_ledger};
 ghost use Rattle.machine.specs.Host.{returned, result_after, lent_with};
 
-use result_slice::{ROOM, refused, short, tell};
-use run::{RunAnswer, inputs_verdict, run};
+use result_slice::{ROOM, reply, short};
+use run::{inputs_verdict, run};
 
 // The run call: the eight counts are told, then the traffic.
 pub fn ring_run(image: &mut [u8], tape: &[u8], ledger: &mut [u8], res: &mut [u8]) -> u64
@@ -20,26 +20,8 @@ pub fn ring_run(image: &mut [u8], tape: &[u8], ledger: &mut [u8], res: &mut [u8]
         ≡ result_after (run_answer image.old tape.now ledger.old)
         res.old }
 {
-    let is_short = res.len() < ROOM;
-    if is_short {
+    let Some(told) = res.first_chunk_mut::<ROOM>() else {
         return short(inputs_verdict(image, tape));
-    }
-    let answer = run(image, tape, ledger);
-    let RunAnswer::Done(counts, traffic) = answer else {
-        return refused(res, answer.refusal());
     };
-    let words = [
-        counts.puts,
-        counts.gets,
-        counts.fills,
-        counts.takes,
-        counts.sent,
-        counts.got,
-        counts.idle,
-        counts.records,
-        traffic.requests,
-        traffic.departures,
-    ];
-    tell(res, &words);
-    0
+    reply(told, run(image, tape, ledger))
 }

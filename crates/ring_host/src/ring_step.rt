@@ -3,9 +3,8 @@ ghost use Rattle.std.specs.Prelude.{◌≡◌};
 ghost use Rattle.machine.specs.Answers.{step_answer, step_image};
 ghost use Rattle.machine.specs.Host.{returned, result_after, lent_with};
 
-use numbers::{outcome_message, outcome_number};
-use result_slice::{ROOM, refused, short, tell};
-use step::{StepAnswer, step, step_verdict};
+use result_slice::{ROOM, reply, short};
+use step::{step, step_verdict};
 
 // The step call: the outcome's number and message are told, then the traffic.
 pub fn ring_step(image: &mut [u8], event: &[u8], res: &mut [u8]) -> u64
@@ -16,28 +15,8 @@ pub fn ring_step(image: &mut [u8], event: &[u8], res: &mut [u8]) -> u64
     ensures told { res.new
         ≡ result_after (step_answer image.old event.now) res.old }
 {
-    let is_short = res.len() < ROOM;
-    if is_short {
+    let Some(told) = res.first_chunk_mut::<ROOM>() else {
         return short(step_verdict(image, event));
-    }
-    let answer = step(image, event);
-    let StepAnswer::Done(outcome, traffic) = answer else {
-        return refused(res, answer.refusal());
     };
-    let number = outcome_number(outcome) as u64;
-    let message = outcome_message(outcome) as u64;
-    let words = [
-        number,
-        message,
-        traffic.requests,
-        traffic.departures,
-        0,
-        0,
-        0,
-        0,
-        0,
-        0,
-    ];
-    tell(res, &words);
-    0
+    reply(told, step(image, event))
 }

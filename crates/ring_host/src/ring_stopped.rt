@@ -3,9 +3,9 @@ ghost use Rattle.std.specs.Prelude.{◌≡◌};
 ghost use Rattle.machine.specs.Answers.{stopped_answer};
 ghost use Rattle.machine.specs.Host.{returned, result_after};
 
-use result_slice::{ROOM, refused, short, tell_one};
+use result_slice::{ROOM, reply, short};
 use sound::image_verdict;
-use stopped::{StoppedAnswer, stopped};
+use stopped::stopped;
 
 // The stopped call: 1 is told for yes, 0 for no.
 pub fn ring_stopped(image: &[u8], res: &mut [u8]) -> u64
@@ -13,18 +13,8 @@ pub fn ring_stopped(image: &[u8], res: &mut [u8]) -> u64
     ensures told { res.new
         ≡ result_after (stopped_answer image.now) res.old }
 {
-    let is_short = res.len() < ROOM;
-    if is_short {
+    let Some(told) = res.first_chunk_mut::<ROOM>() else {
         return short(image_verdict(image));
-    }
-    let answer = stopped(image);
-    let StoppedAnswer::Yes = answer else {
-        let StoppedAnswer::No = answer else {
-            return refused(res, answer.refusal());
-        };
-        tell_one(res, 0);
-        return 0;
     };
-    tell_one(res, 1);
-    0
+    reply(told, stopped(image))
 }

@@ -3,8 +3,8 @@ ghost use Rattle.std.specs.Prelude.{◌≡◌};
 ghost use Rattle.machine.specs.Answers.{fresh_answer, fresh_image};
 ghost use Rattle.machine.specs.Host.{returned, result_after, lent_with};
 
-use image::{FreshAnswer, Ring};
-use result_slice::{ROOM, refused, short, tell};
+use image::Ring;
+use result_slice::{ROOM, reply, short};
 
 // The fresh ring call: there are no values to tell.
 pub fn ring_fresh(n: u64, home: u64, image: &mut [u8], res: &mut [u8]) -> u64
@@ -14,15 +14,8 @@ pub fn ring_fresh(n: u64, home: u64, image: &mut [u8], res: &mut [u8]) -> u64
     ensures told { res.new
         ≡ result_after (fresh_answer n home image.old) res.old }
 {
-    let is_short = res.len() < ROOM;
-    if is_short {
+    let Some(told) = res.first_chunk_mut::<ROOM>() else {
         return short(Ring::fresh_verdict(n, home, image));
-    }
-    let answer = Ring::fresh(n, home, image);
-    let FreshAnswer::Done = answer else {
-        return refused(res, answer.refusal());
     };
-    let words = [0, 0, 0, 0, 0, 0, 0, 0, 0, 0];
-    tell(res, &words);
-    0
+    reply(told, Ring::fresh(n, home, image))
 }

@@ -4,8 +4,7 @@ ghost use Rattle.machine.specs.Load.{load_answer, load_output};
 ghost use Rattle.machine.specs.Host.{returned, result_after, lent_with};
 
 use load::{load, load_verdict};
-use result_slice::{ROOM, refused, short, tell_one};
-use tape::Filled;
+use result_slice::{ROOM, reply, short};
 
 // The load call: how many bytes it filled is told.
 pub fn ring_load(n: u64, seed: u64, count: u64, output: &mut [u8], res: &mut [u8]) -> u64
@@ -15,14 +14,8 @@ pub fn ring_load(n: u64, seed: u64, count: u64, output: &mut [u8], res: &mut [u8
     ensures told { res.new
         ≡ result_after (load_answer n seed count output.old) res.old }
 {
-    let is_short = res.len() < ROOM;
-    if is_short {
+    let Some(told) = res.first_chunk_mut::<ROOM>() else {
         return short(load_verdict(n, seed, count));
-    }
-    let answer = load(n, seed, count, output);
-    let Filled::Done(filled) = answer else {
-        return refused(res, answer.refusal());
     };
-    tell_one(res, filled as u64);
-    0
+    reply(told, load(n, seed, count, output))
 }

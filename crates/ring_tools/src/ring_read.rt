@@ -3,8 +3,8 @@ ghost use Rattle.std.specs.Prelude.{◌≡◌};
 ghost use Rattle.machine.specs.Answers.{read_answer, read_output};
 ghost use Rattle.machine.specs.Host.{returned, result_after, lent_with};
 
-use result_slice::{ROOM, refused, short, tell_one};
-use tape::{Filled, read, read_verdict};
+use result_slice::{ROOM, reply, short};
+use tape::{read, read_verdict};
 
 // The reader call: how many bytes it filled is told.
 pub fn ring_read(n: u64, tape: &[u8], output: &mut [u8], res: &mut [u8]) -> u64
@@ -16,14 +16,8 @@ pub fn ring_read(n: u64, tape: &[u8], output: &mut [u8], res: &mut [u8]) -> u64
     ensures told { res.new
         ≡ result_after (read_answer n tape.now output.old) res.old }
 {
-    let is_short = res.len() < ROOM;
-    if is_short {
+    let Some(told) = res.first_chunk_mut::<ROOM>() else {
         return short(read_verdict(n, tape));
-    }
-    let answer = read(n, tape, output);
-    let Filled::Done(filled) = answer else {
-        return refused(res, answer.refusal());
     };
-    tell_one(res, filled as u64);
-    0
+    reply(told, read(n, tape, output))
 }

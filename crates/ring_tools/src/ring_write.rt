@@ -3,8 +3,8 @@ ghost use Rattle.std.specs.Prelude.{◌≡◌};
 ghost use Rattle.machine.specs.Answers.{write_answer, write_output};
 ghost use Rattle.machine.specs.Host.{returned, result_after, lent_with};
 
-use result_slice::{ROOM, refused, short, tell_one};
-use tape::{Filled, write, write_verdict};
+use result_slice::{ROOM, reply, short};
+use tape::{write, write_verdict};
 
 // The writer call: how many bytes it filled is told.
 pub fn ring_write(n: u64, list: &[u8], output: &mut [u8], res: &mut [u8]) -> u64
@@ -16,14 +16,8 @@ pub fn ring_write(n: u64, list: &[u8], output: &mut [u8], res: &mut [u8]) -> u64
     ensures told { res.new
         ≡ result_after (write_answer n list.now output.old) res.old }
 {
-    let is_short = res.len() < ROOM;
-    if is_short {
+    let Some(told) = res.first_chunk_mut::<ROOM>() else {
         return short(write_verdict(n, list));
-    }
-    let answer = write(n, list, output);
-    let Filled::Done(filled) = answer else {
-        return refused(res, answer.refusal());
     };
-    tell_one(res, filled as u64);
-    0
+    reply(told, write(n, list, output))
 }

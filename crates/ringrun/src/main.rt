@@ -11,11 +11,13 @@
 
 ghost use Rattle.std.specs.Prelude.{◌≤◌, length, IfOk};
 
-use report::{MOST_INPUT, MOST_TEXT, ReportAnswer, report};
+use report::{MOST_INPUT, MOST_TEXT, report};
 use std::io;
 use std::io::Read;
 
-// Reads until the input ends or the buffer is full, and returns how many bytes it put at the buffer's start.
+// Reads until the input ends or the buffer is full, and returns how many bytes it put at the buffer's start. A loop of
+// our own: std's `read_exact` fails at a shorter input, `read_to_end` needs a heap, and no clause of `io::copy` says
+// that what it counts lies within the buffer.
 fn read_full(rt: &HostRuntime, input: &mut [u8]) -> io::Result<usize>
     ensures { IfOk result (λ n. n ≤ length input.new) }
 {
@@ -36,7 +38,7 @@ fn main(rt: HostRuntime) -> io::Result<()> {
     let count = read_full(&rt, &mut input)?;
     let mut output = [0; MOST_TEXT];
     let answer = report(&input[..count], &mut output);
-    let ReportAnswer::Done(end) = answer else {
+    let Ok(end) = answer else {
         return Ok(());
     };
     rt.write_all(&output[..end])

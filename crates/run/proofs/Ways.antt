@@ -1,5 +1,6 @@
 -- Each way through the run call is that way through the rule. The answers of lower functions are variables here, each
 -- with the rule's value that it is known to be.
+use Rattle.std.specs.Prelude.{Err, Ok}
 use Prim.Native.Nat.{ℕ, ◌/◌, ◌≤◌}
 use mathlib.Core.Path.{◌≡◌, sym, ◌∙◌}
 use mathlib.Core.Bool.{Bool, true, false}
@@ -10,8 +11,7 @@ use lib.Dec.{leb}
 use borrow.Author.Tests.{leb-true, leb-false}
 use Rattle.machine.specs.declared.Refusal.{Refusal}
 use Rattle.machine.specs.declared.Refusal.TheVariants as refusal
-use Rattle.machine.specs.declared.Verdict.{Verdict}
-use Rattle.machine.specs.declared.Verdict.TheVariants as verdict
+use Rattle.machine.specs.Verdict.{Verdict}
 use Rattle.machine.specs.Image.{size_in, state_in, image_with}
 use Rattle.machine.specs.Run.{count_values, after}
 use Rattle.machine.specs.Traffic.{traffic_values}
@@ -32,8 +32,8 @@ module _ (s tape ledger : List ℕ) where
       (a ≡ run_answer s tape ledger) × ((image ≡ run_image s tape ledger) × (records ≡ run_ledger s tape ledger))
 
   -- a refusal by the rule's verdict
-  refused : (r : Refusal) → run_verdict s tape ledger ≡ verdict.Refused r
-      → Meets (answer (verdict.Refused r) []) s ledger
+  refused : (r : Refusal) → run_verdict s tape ledger ≡ Err r
+      → Meets (answer (Err r) []) s ledger
   unfolding run_answer run_image run_ledger
   refused r is = (rw is, (rw is, rw is))
 
@@ -41,14 +41,14 @@ module _ (s tape ledger : List ℕ) where
   abbrev given : Verdict
   given = or_else (image_verdict s) (tape_verdict codes (size_in s) tape)
 
-  pub run_refused : {r : Refusal} → given ≡ verdict.Refused r → Meets (answer (verdict.Refused r) []) s ledger
+  pub run_refused : {r : Refusal} → given ≡ Err r → Meets (answer (Err r) []) s ledger
   unfolding run_verdict
   run_refused e =
       refused _
       (inputs_refuse (image_verdict s) (tape_verdict codes (size_in s) tape) (length (run_records s tape)) ledger e)
 
-  module _ (fine : given ≡ verdict.Fine) where
-    accepted : tape_verdict codes (size_in s) tape ≡ verdict.Fine
+  module _ (fine : given ≡ Ok tt) where
+    accepted : tape_verdict codes (size_in s) tape ≡ Ok tt
     accepted = second_fine (image_verdict s) _ fine
 
     pub run_accepted : Accepted tape
@@ -68,7 +68,7 @@ module _ (s tape ledger : List ℕ) where
       measured : room ≡ leb (length (run_records s tape)) (length ledger)
       measured = rw (all_records tape all s) at told
 
-      pub ledger_refused : room ≡ false → Meets (answer (verdict.Refused refusal.Output) []) s ledger
+      pub ledger_refused : room ≡ false → Meets (answer (Err refusal.Output) []) s ledger
       unfolding run_verdict
       ledger_refused short =
           refused refusal.Output
@@ -79,7 +79,7 @@ module _ (s tape ledger : List ℕ) where
           → Tells (state_in s) (first_events tape events) p
           → image ≡ image_with s (after (state_in s) (first_events tape events))
           → Recorded (first_records s tape events) ledger records
-          → Meets (answer verdict.Fine (count_values p.counts ++ traffic_values p.traffic)) image records
+          → Meets (answer (Ok tt) (count_values p.counts ++ traffic_values p.traffic)) image records
       unfolding run_answer run_image run_ledger run_verdict
       run_done enough came_to wrote entered =
           let fits = leb-true _ _ (sym measured ∙ enough) in
@@ -91,3 +91,6 @@ module _ (s tape ledger : List ℕ) where
             rw (came_to.counts, came_to.traffic, every, is),
             (wrote ∙ rw (every, is), (rw records at entered) fits ∙ rw is),
           )
+
+-- what is known of inputs that are accepted
+pub ruleset when_accepted = (run_accepted, block_events, playable)

@@ -1,4 +1,4 @@
--- The table of masks, arm by arm, and the entries that no arm names: a test that the checker computes at all 32.
+-- The entries that no arm of the table of masks names: a test that the checker computes at all 32.
 use Prim.Native.Nat.{ℕ, ◌<◌}
 use mathlib.Core.Path.{◌≡◌, refl, sym}
 use mathlib.Core.Bool.{Bool, true, false, ◌||◌}
@@ -9,12 +9,6 @@ use borrow.Author.Tests.{eqb-true, ne_eqb}
 use Rattle.machine.specs.Lists.{every}
 use Rattle.machine.proofs.Laws.Lists.{every_at}
 use Rattle.sound.specs.Demands.{demand_of}
-
--- an arm that the table has
-pub row_is : {entry k mask : ℕ} → OneOf (k ∷ []) entry → demand_of k ≡ mask → mask ≡ demand_of entry
-row_is here is = rw here (sym is)
-
--- ---- the others
 
 -- none of these
 abbrev NoneOf : List ℕ → ℕ → Type 0

@@ -1,26 +1,31 @@
 -- The walk over the records, step by step: at first it holds what the rules say of no record, and after each step what
 -- they say of one record more.
 use Prim.Native.Nat.{ℕ, suc, ◌+◌, ◌-◌, ◌*◌, ◌/◌, ◌%◌, ◌^◌, ◌≤◌, ◌<◌}
-use mathlib.Core.Path.{◌≡◌, refl, ◌∙◌}
+use mathlib.Core.Path.{◌≡◌, refl, sym, ap, ◌∙◌}
 use mathlib.Core.Bool.{true, cond, and_comm}
-use mathlib.Core.List.{List, [], ◌∷◌}
+use mathlib.Core.List.{List, [], ◌∷◌, ◌++◌}
 use mathlib.Core.Logic.{◌⊎◌, inl, inr}
 use native.Mathlib.Omega.{arith}
 use native.Mathlib.Nat.{le_trans}
-use lib.ListN.{length, get_or}
+use lib.ListN.{length, get_or, take, drop, length-append, length-drop}
 use lib.Dec.{eqb, lit≤}
 use lib.Bits.{bit_and, bit_or, or_add_and, and_le_l, and_le_r}
 use lib.Pow.{pow_mono}
+use lib.Seq.{length-take-le}
 use lib.Count.{ones}
 use borrow.Author.Tests.{eq-eqb, ne_eqb}
 use Rattle.machine.specs.declared.Process.{Process}
-use Rattle.machine.specs.Bytes.{Bytes, bit, number}
+use Rattle.std.specs.Simd.{first_chunks}
+use Rattle.std.proofs.lemmas.List.{same_from_push}
+use Rattle.machine.specs.Bytes.{Bytes, bit, part, number}
 use Rattle.machine.specs.Lists.{tabulate, all, sum}
 use Rattle.machine.specs.Fields.{Status, full, empty, for}
 use Rattle.machine.specs.Image.{process_in}
 use Rattle.machine.specs.Sound.{holds, record_rules_in, stage_fits, stages_fit, places, marked_set}
 use Rattle.machine.proofs.Laws.Bits.{bit_le, is_bit}
 use Rattle.machine.proofs.Laws.Bytes.{number_4, number_8, number_lt}
+use Rattle.machine.proofs.Laws.Chunks.{length_chunks, chunks_more, chunk_number}
+use Rattle.machine.proofs.Laws.Splices.{part_part}
 use Rattle.machine.proofs.Laws.Lists.{and_first, and_second, length_tabulate}
 use Rattle.machine.proofs.Laws.Walk.{places_le, marked_lt}
 use Rattle.sound.specs.declared.walk.Walk.{Walk}
@@ -170,10 +175,76 @@ walk_none s status i =
     }
 
 -- as code has it: the status as a digit, and so many records up to n
-pub walk_step : (s : List ℕ) → Bytes s → (digit n i : ℕ) {w w' : Walk} {word : ℕ} → digit < 2 → i < n
+walk_step : (s : List ℕ) → Bytes s → (digit n i : ℕ) {w w' : Walk} {word : ℕ} → digit < 2 → i < n
     → Walked s (eqb digit 1) (i + 1) (n - (i + 1)) w → word ≡ number s (16 + 8 * i) 8 → w' ≡ walked_on w digit i word
     → Walked s (eqb digit 1) i (n - i) w'
 walk_step s small digit n i {w} {w'} {word} two below so read next =
     let same : bit (eqb digit 1) ≡ digit = is_bit digit (omega arith) in
     let one : n - i ≡ suc (n - (i + 1)) = omega arith in
     rw (next, read, one) (rw same at (walk_more s small i (eqb digit 1) (n - (i + 1)) so))
+
+-- ---- the loop, in reverse over the chunks of 8 bytes behind the header
+
+-- the first chunk has number `count`; `rest` are still to come
+pub record Going (s : List ℕ) (status : Status) (n count : ℕ) (rest : List (List ℕ)) (w : Walk) : Type 0 where
+  pub none : count ≡ 0
+  pub few : length rest ≤ n
+  pub chunks : rest ≡ first_chunks 8 (length rest) (part s 16 (8 * n))
+  pub walked : Walked s status (length rest) (n - length rest) w
+
+pub going_start : (s : List ℕ) (status : Status) (n : ℕ) → 16 + 8 * n ≤ length s → {count width : ℕ}
+    {rest : List (List ℕ)} → count ≡ 0 → width ≡ 8 * n
+    → rest ≡ first_chunks 8 (length (part s 16 width) / 8) (part s 16 width)
+    → Going s status n count rest (record { first = n; left = 0; flags = 0; full = 0; empty = 0 })
+going_start s status n room {count} {width} {rest} none wide is =
+    let part_long : length (part s 16 width) ≡ width =
+    length-take-le width (drop 16 s) (omega (arith, length-drop 16 s)) in
+    let so_many : length (part s 16 width) / 8 ≡ n = omega arith in
+    let long : length rest ≡ n = ap length is ∙ length_chunks 8 _ (part s 16 width) ∙ so_many in
+    let left : n - n ≡ 0 = omega arith in
+    record {
+      none = none;
+      few = omega arith;
+      chunks = rw (long, ← wide) (rw so_many at is);
+      walked = rw (long, left) (walk_none s status n);
+    }
+
+one_less : {rest : List (List ℕ)} (before : List (List ℕ)) (bytes : List ℕ) → rest ≡ before ++ (bytes ∷ [])
+    → length rest ≡ suc (length before)
+one_less before bytes next = omega (arith, ap length next, length-append before (bytes ∷ []))
+
+pub going_room : {s : List ℕ} {status : Status} {n count : ℕ} {rest : List (List ℕ)} {w : Walk}
+    → Going s status n count rest w → n ≤ 64 → (before : List (List ℕ)) (bytes : List ℕ) → rest ≡ before ++ (bytes ∷ [])
+    → (w.flags < 2 ^ 63) × (w.full < 2 ^ 63) × (w.empty < 2 ^ 63)
+going_room {s} {status} {n} {count} {rest} g few before bytes next =
+    room_for_more s status (length rest) (n - length rest) (omega (arith, one_less before bytes next, g.few)) g.walked
+
+pub going_on : {s : List ℕ} {n count : ℕ} {rest : List (List ℕ)} {w : Walk} → Bytes s → (digit : ℕ) → digit < 2
+    → Going s (eqb digit 1) n count rest w → (before : List (List ℕ)) (bytes : List ℕ) → rest ≡ before ++ (bytes ∷ [])
+    → {count' i word : ℕ} {w' : Walk} → count' ≡ count → i ≡ count + length before → word ≡ number bytes 0 8
+    → w' ≡ walked_on w digit i word → Going s (eqb digit 1) n count' before w'
+going_on {s} {n} {count} {rest} {w} small digit two g before bytes next {count'} {i} {word} {w'} same here read step =
+    let S = part s 16 (8 * n) in
+    let less = one_less before bytes next in
+    let two_ways : before ++ (bytes ∷ [])
+    ≡ first_chunks 8 (length before) S ++ (take 8 (drop (8 * length before) S) ∷ []) =
+    sym next ∙ rw less at g.chunks ∙ chunks_more 8 (length before) S in
+    let parts = same_from_push before (first_chunks 8 (length before) S) bytes _ two_ways in
+    let this : bytes ≡ part s (16 + 8 * length before) 8 =
+    parts.1 ∙ part_part s 16 (8 * n) (8 * length before) 8 (omega (arith, less, g.few)) in
+    let at : i ≡ length before = omega (arith, g.none) in
+    let left : n - length before ≡ suc (n - (length before + 1)) = omega (arith, less, g.few) in
+    let more : length rest ≡ length before + 1 = omega arith in
+    record {
+      none = same ∙ g.none;
+      few = omega (arith, less, g.few);
+      chunks = parts.0;
+      walked =
+          walk_step s small digit n (length before) two (omega (arith, less, g.few)) (rw more at g.walked)
+          (read ∙ ap (λ (l : List ℕ). number l 0 8) this ∙ chunk_number s (16 + 8 * length before))
+          (step ∙ ap (λ (k : ℕ). walked_on w digit k word) at);
+    }
+
+pub going_end : {s : List ℕ} {status : Status} {n count : ℕ} {rest : List (List ℕ)} {w : Walk}
+    → Going s status n count rest w → length rest ≡ 0 → Walked s status 0 n w
+going_end {n = n} g none = let whole : n - 0 ≡ n = omega arith in rw (none, whole) at g.walked

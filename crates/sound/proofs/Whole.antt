@@ -1,5 +1,6 @@
 -- Soundness from the header's two words and what the walk gathers: one mask, one order and one compare are the header's
 -- rules and both counts; no record is out of range, every stage stands, and just one flag is set.
+use Rattle.std.specs.Prelude.{Err, Ok}
 use Prim.Native.Nat.{ℕ, ◌+◌, ◌*◌, ◌/◌, ◌%◌, ◌^◌, ◌≤◌, ◌<◌}
 use mathlib.Core.Path.{◌≡◌, refl, sym, ap, ◌∙◌}
 use mathlib.Core.Bool.{Bool, true, false, not, ◌&&◌, ◌||◌, true≢false}
@@ -14,7 +15,6 @@ use lib.Pow.{pow_mono}
 use lib.Count.{ones, ones-le}
 use borrow.Author.Tests.{not-true, not-false, eqb-true, eq-eqb, leb-true, le-leb}
 use Rattle.machine.specs.declared.Refusal.TheVariants as refusal
-use Rattle.machine.specs.declared.Verdict.TheVariants as verdict
 use Rattle.machine.specs.Bytes.{Bytes, number, zeros}
 use Rattle.machine.specs.Lists.{every}
 use Rattle.machine.specs.Fields.{Status, full, empty}
@@ -232,16 +232,16 @@ module _ (s : List ℕ) (small : Bytes s) where
           (and_both (header_fits s) (records_fit s (size_in s)) header_fits_lem records) rest_fits_lem
 
     -- an image that isn't sound fails a test
-    unsound : (Passes n w → ⊥) → verdict.Refused refusal.Unsound ≡ sound_verdict s
+    unsound : (Passes n w → ⊥) → Err refusal.Unsound ≡ sound_verdict s
     unfolding sound_verdict
     unsound fails = go (sound s) refl
       where
-        go : (b : Bool) → sound s ≡ b → verdict.Refused refusal.Unsound ≡ unless b refusal.Unsound
+        go : (b : Bool) → sound s ≡ b → Err refusal.Unsound ≡ unless b refusal.Unsound
         go true ok = absurd (fails (sound_passes ok))
         go false not_so = refl
 
     -- and one that fails none is sound
-    pub passed : Passes n w → verdict.Fine ≡ sound_verdict s
+    pub passed : Passes n w → (Ok tt) ≡ sound_verdict s
     unfolding sound_verdict
     passed p = rw (passes_sound p)
 
@@ -249,33 +249,33 @@ module _ (s : List ℕ) (small : Bytes s) where
 
 module _ (s : List ℕ) (small : Bytes s) {n : ℕ} {w : Walk} (size : n ≡ size_in s) (most : n ≤ 64)
     (walked : Walked s (eqb (number s 0 8 / 256 % 2) 1) 0 n w) where
-  refuse : (Passes s small n w → ⊥) → verdict.Refused refusal.Unsound ≡ sound_verdict s
+  refuse : (Passes s small n w → ⊥) → Err refusal.Unsound ≡ sound_verdict s
   refuse = unsound s small size most walked
 
   pub mask_refuses : {a : ℕ} → a ≡ number s 0 8 → (bit_and a 16580096 ≡ 0 → ⊥)
-      → verdict.Refused refusal.Unsound ≡ sound_verdict s
+      → Err refusal.Unsound ≡ sound_verdict s
   mask_refuses one left = refuse (λ p. left (rw one p.mask))
 
   pub message_refuses : {a b : ℕ} → a ≡ number s 0 8 → b ≡ number s 8 8 → a / 256 % 2 * 4294967295 < b
-      → verdict.Refused refusal.Unsound ≡ sound_verdict s
+      → Err refusal.Unsound ≡ sound_verdict s
   message_refuses one two more = refuse (λ p. omega (arith, p.message, rw (one, two) at more))
 
-  pub records_refuse : (w.first ≡ n → ⊥) → verdict.Refused refusal.Unsound ≡ sound_verdict s
+  pub records_refuse : (w.first ≡ n → ⊥) → Err refusal.Unsound ≡ sound_verdict s
   records_refuse bad = refuse (λ p. bad p.records)
 
-  pub stages_refuse : {b : Bool} → b ≡ stand_in w → not b ≡ true → verdict.Refused refusal.Unsound ≡ sound_verdict s
+  pub stages_refuse : {b : Bool} → b ≡ stand_in w → not b ≡ true → Err refusal.Unsound ≡ sound_verdict s
   stages_refuse is wrong = refuse (λ p. true≢false (sym p.stages ∙ sym is ∙ not-true _ wrong))
 
-  pub flags_refuse : {f : ℕ} → f ≡ flags_in w → (f ≡ 1 → ⊥) → verdict.Refused refusal.Unsound ≡ sound_verdict s
+  pub flags_refuse : {f : ℕ} → f ≡ flags_in w → (f ≡ 1 → ⊥) → Err refusal.Unsound ≡ sound_verdict s
   flags_refuse is other = refuse (λ p. other (is ∙ p.one))
 
   pub counts_refuse : {a c : ℕ} → a ≡ number s 0 8 → c ≡ counts_in w → (c ≡ a / 16777216 → ⊥)
-      → verdict.Refused refusal.Unsound ≡ sound_verdict s
+      → Err refusal.Unsound ≡ sound_verdict s
   counts_refuse one is other = refuse (λ p. other (is ∙ p.counts ∙ ap (λ (x : ℕ). x / 16777216) (sym one)))
 
   pub all_passed : {a b c f : ℕ} {t : Bool} → a ≡ number s 0 8 → b ≡ number s 8 8 → bit_and a 16580096 ≡ 0
       → b ≤ a / 256 % 2 * 4294967295 → w.first ≡ n → t ≡ stand_in w → not t ≡ false → f ≡ flags_in w → f ≡ 1
-      → c ≡ counts_in w → c ≡ a / 16777216 → verdict.Fine ≡ sound_verdict s
+      → c ≡ counts_in w → c ≡ a / 16777216 → (Ok tt) ≡ sound_verdict s
   all_passed {a} {b} {c} {f} {t} one two mask message records stand stood flags set counts same =
       passed s small size most walked
       (record {
@@ -286,3 +286,6 @@ module _ (s : List ℕ) (small : Bytes s) {n : ℕ} {w : Walk} (size : n ≡ siz
         one = sym flags ∙ set;
         counts = sym counts ∙ same ∙ ap (λ (x : ℕ). x / 16777216) one;
       })
+
+-- each test that refuses, and all of them passed
+pub ruleset each_test = (mask_refuses, message_refuses, records_refuse, stages_refuse, flags_refuse, all_passed)

@@ -1,20 +1,26 @@
--- A stretch of bytes, written or tested one byte after the other: a byte more is one more of the splice, or of the
--- test.
-use Prim.Native.Nat.{ℕ, zero, suc, ◌+◌, ◌-◌, ◌<◌, ◌≤◌}
-use mathlib.Core.Path.{◌≡◌, sym, ◌∙◌}
+-- Stretches of bytes: what is written over a part is a splice, and bytes or-ed are none exactly when all are zero.
+use Prim.Native.Nat.{ℕ, ◌+◌, ◌<◌}
+use mathlib.Core.Path.{◌≡◌, sym, ap, ◌∙◌}
 use mathlib.Core.List.{List, [], ◌∷◌, ◌++◌, append_assoc}
-use mathlib.Core.Bool.{true, ◌&&◌, and_assoc}
+use mathlib.Core.Bool.{Bool, ◌&&◌, and-true, and_assoc}
 use native.Mathlib.Omega.{arith}
-use lib.ListN.{length, get_or, set, take, drop, replicate, length-drop, length-replicate, replicate-append-replicate}
-use lib.Seq.{sets-eq, length-take-le}
+use borrow.Rule.Slice.PartMut.{put_mid}
+use lib.ListN.{length, set, take, drop}
+use lib.Seq.{sets-eq, drop-drop}
+use Rattle.std.specs.List.{fold}
 use lib.Bits.{bit_or}
 use lib.Dec.{eqb}
 use Rattle.machine.specs.Bytes.{part, all_zero, zeros, splice}
-use Rattle.machine.proofs.Laws.Bytes.{zeros_more, length_splice, splice_next}
-use Rattle.machine.proofs.Image.Rewrite.{part_add, part_more}
+use Rattle.machine.proofs.Laws.Bytes.{length_splice, splice_next}
 use Rattle.machine.proofs.Laws.Ored.{or_none}
 
 -- ---- written
+
+-- what is written over a part
+pub put_splice : (at width : ℕ) (s : List ℕ) {t bs : List ℕ} → t ≡ bs → length bs ≡ width
+    → put_mid at width s t ≡ splice s at bs
+unfolding splice
+put_splice at width s is long = rw (is, drop-drop width at s, long)
 
 -- a store is a splice of one byte
 store_splice : (s : List ℕ) (at x : ℕ) → at < length s → set s at x ≡ splice s at (x ∷ [])
@@ -29,41 +35,18 @@ splice_one s at bs x h =
     store_splice (splice s at bs) (at + length bs) x (rw (length_splice s at bs (omega arith)) h)
     ∙ splice_next s at bs (x ∷ []) (omega arith)
 
-module _ (s : List ℕ) (at i : ℕ) (h : at + i < length s) where
-  -- one zero more
-  pub clear_more : set (splice s at (replicate i 0)) (at + i) 0 ≡ splice s at (replicate (i + 1) 0)
-  clear_more =
-      let nothing : List ℕ = replicate i 0 in
-      let long : length nothing ≡ i = length-replicate {A = ℕ} i 0 in
-      let here : at + i ≡ at + length nothing = omega arith in
-      rw (here, splice_one s at nothing 0 (omega arith), replicate-append-replicate {A = ℕ} i 1 0)
-
-  -- one byte more of another buffer
-  pub copy_more : (f : List ℕ) (k x : ℕ) → k + i < length f → x ≡ get_or f (k + i) 0
-      → set (splice s at (part f k i)) (at + i) x ≡ splice s at (part f k (i + 1))
-  copy_more f k x g is =
-      let long : length (part f k i) ≡ i = rw (length-take-le i (drop k f) (rw (length-drop k f) (omega arith))) in
-      let here : at + i ≡ at + length (part f k i) = omega arith in
-      rw (here, splice_one s at (part f k i) x (omega arith), is, part_add f k i 1, part_more f (k + i) 0 g)
-
 -- ---- tested
 
-module _ (s : List ℕ) (at i count : ℕ) (h : i < count) where
-  next : zeros s (at + i) (count - i) ≡ eqb (get_or s (at + i) 0) 0 && zeros s (at + (i + 1)) (count - (i + 1))
-  next =
-      let e : count - i ≡ suc (count - (i + 1)) = omega arith in
-      let f : at + i + 1 ≡ at + (i + 1) = omega arith in
-      rw (e, zeros_more s (at + i) (count - (i + 1)), f)
+-- bytes or-ed into what is or-ed already
+pub ored_none : (bs : List ℕ) (any : ℕ) → eqb (fold bit_or any bs) 0 ≡ eqb any 0 && all_zero bs
+unfolding all_zero
+ored_none [] any = sym (and-true (eqb any 0))
+ored_none (b ∷ bs) any =
+    ored_none bs (bit_or any b)
+    ∙ rw (or_none any b) (and_assoc (eqb any 0) (eqb b 0) (all_zero bs))
 
-  -- one byte more of what is or-ed
-  pub zeros_on : (any : ℕ)
-      → eqb any 0 && zeros s (at + i) (count - i)
-      ≡ eqb (bit_or any (get_or s (at + i) 0)) 0 && zeros s (at + (i + 1)) (count - (i + 1))
-  zeros_on any =
-      let x = eqb (get_or s (at + i) 0) 0 in
-      let rest = zeros s (at + (i + 1)) (count - (i + 1)) in
-      rw (next, or_none any (get_or s (at + i) 0)) (sym (and_assoc (eqb any 0) x rest))
-
-pub zeros_end : (s : List ℕ) (at i count : ℕ) → count ≤ i → zeros s (at + i) (count - i) ≡ true
-unfolding zeros all_zero
-zeros_end s at i count h = let e : count - i ≡ zero = omega arith in rw e
+-- what is tested of a part
+pub clear_cut : (s : List ℕ) (at width k : ℕ) {clear : Bool} → k ≡ width → clear ≡ all_zero (part s at k)
+    → clear ≡ zeros s at width
+unfolding zeros
+clear_cut s at width k wide is = is ∙ ap (λ (n : ℕ). all_zero (part s at n)) wide

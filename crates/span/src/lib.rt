@@ -1,37 +1,37 @@
-// Stretches of bytes: cleared, copied, tested for zeros.
+// Stretches of bytes: cleared, written, tested for zeros.
 #![tactic(auto)]
 
-ghost use Rattle.std.specs.Prelude.{◌≡◌, ◌+◌, ◌≤◌, length, replicate};
-ghost use Rattle.machine.specs.Bytes.{part, zeros, splice};
+ghost use Rattle.std.specs.Prelude.{◌≡◌, ◌+◌, ◌≤◌, length, replicate, bit_or};
+ghost use Rattle.std.specs.List.{fold};
+ghost use Rattle.machine.specs.Bytes.{all_zero, splice};
 
-// Internal: zeros over so many bytes from `at` on.
+// Internal: zeros over so many bytes from `at` on. With a place, here and below: what a caller knows afterwards is said
+// of its whole buffer, and the library's `fill` says it of the part alone.
 pub fn clear(bytes: &mut [u8], at: usize, count: usize)
     requires { at + count ≤ length bytes.old }
     ensures { bytes.new ≡ splice bytes.old at (replicate count 0) }
 {
-    for i in 0..count {
-        bytes[at + i] = 0;
-    }
+    bytes[at..at + count].fill(0);
 }
 
-// Internal: so many bytes of one buffer from `at` on, written over another from `start` on.
-pub fn copy(from: &[u8], at: usize, to: &mut [u8], start: usize, count: usize)
-    requires { (at + count ≤ length from.now) × (start + count ≤ length to.old) }
-    ensures { to.new ≡ splice to.old start (part from.now at count) }
+// Internal: a piece written over a buffer from `at` on.
+pub fn put(bytes: &mut [u8], at: usize, piece: &[u8])
+    requires { at + length piece.now ≤ length bytes.old }
+    ensures { bytes.new ≡ splice bytes.old at piece.now }
 {
-    for i in 0..count {
-        to[start + i] = from[at + i];
-    }
+    bytes[at..at + piece.len()].copy_from_slice(piece);
 }
 
-// Internal: whether so many bytes from `at` on are zero: all are or-ed, and no branch hangs on a byte.
-pub fn is_clear(bytes: &[u8], at: usize, count: usize) -> bool
-    requires { at + count ≤ length bytes.now }
-    ensures { result ≡ zeros bytes.now at count }
+// The bytes, or-ed.
+fn ored(bytes: &[u8]) -> u8
+    ensures { result ≡ fold bit_or 0 bytes.now }
 {
-    let mut any: u8 = 0;
-    for i in 0..count {
-        any = any | bytes[at + i];
-    }
-    any == 0
+    bytes.iter().fold(0, |any, byte| any | *byte)
+}
+
+// Internal: whether all bytes are zero: they are or-ed, and no branch hangs on a byte.
+pub fn is_clear(bytes: &[u8]) -> bool
+    ensures { result ≡ all_zero bytes.now }
+{
+    ored(bytes) == 0
 }

@@ -3,48 +3,58 @@
 
 ghost use Rattle.std.specs.Prelude.{◌≡◌, ◌%◌, ◌≤◌, length, get_or};
 ghost use Rattle.machine.specs.Bytes.{number};
-ghost use Rattle.machine.specs.Answers.{step_verdict, step_answer, step_image};
-ghost use Rattle.step.specs.Step.{in_numbers, refusal_of, outcome_read};
+ghost use Rattle.machine.specs.Answers.{in_numbers, step_verdict, step_answer, step_image};
+ghost use Rattle.step.specs.Step.{values_of, outcome_read};
 
 use event::Event;
-use little_endian::{number_at, wide};
-use machine::{Outcome, Refusal, Traffic, Verdict};
-use numbers::refusal_of;
+use little_endian::Word;
+use machine::{Answer, Outcome, Traffic, Verdict};
+use numbers::Values;
 use sound::image_verdict;
 use turns::{traffic_in, turns};
 
-// What the step call answers.
-#[derive(Clone, Copy)]
-pub enum StepAnswer {
-    Done(Outcome, Traffic),
-    Refused(Refusal),
+// What a step is done with: the event's outcome and its traffic.
+#[derive(Clone, Copy, Debug, PartialEq, Eq)]
+pub struct Stepped {
+    pub outcome: Outcome,
+    pub traffic: Traffic,
 }
 
-impl StepAnswer {
-    // Internal: the refusal of a step that is refused. No other is asked for it.
-    pub fn refusal(self) -> Refusal
-        ensures { result ≡ refusal_of self }
-    {
-        match self {
-            StepAnswer::Refused(refusal) => refusal,
-            _ => Refusal::Output,
-        }
+impl Values for Stepped {
+    ghost values = { values_of };
+
+    fn words(self) -> [u64; 10] {
+        [
+            u64::from(self.outcome.number()),
+            u64::from(self.outcome.message()),
+            self.traffic.requests,
+            self.traffic.departures,
+            0,
+            0,
+            0,
+            0,
+            0,
+            0,
+        ]
     }
 }
 
-// Internal: the step's verdict: 3 or 4 for the image, 5 for the event.
+// Internal: the step's verdict: 3 or 4 for the image, 5 for the event. It mirrors its own rule, as the verdict of every
+// call does: which tests there are is all that these functions say.
+#[tactic(auto, using(machine::proofs::Laws::Refusals::image_fine), unfolding(machine::specs::Answers::step_verdict))]
 pub fn step_verdict(image: &[u8], event: &[u8]) -> Verdict
     ensures { result ≡ step_verdict image.now event.now }
 {
     let verdict = image_verdict(image);
-    let Verdict::Fine = verdict else {
+    let Ok(()) = verdict else {
         return verdict;
     };
-    Event::verdict(event, wide(image[0]))
+    Event::verdict(event, usize::from(image[0]))
 }
 
 // The outcome of one event, from its word of counts and a ledger of zeros with room for its record: idle is counted,
-// and where there is no record something moved.
+// and where there is no record something moved. No `TryFrom` of a code: the message and the count are needed too, and
+// no code fails.
 fn outcome_in(word: u64, ledger: &[u8]) -> Outcome
     requires { 12 ≤ length ledger.now }
     ensures { result
@@ -53,7 +63,7 @@ fn outcome_in(word: u64, ledger: &[u8]) -> Outcome
     if word % 128 == 1 {
         return Outcome::Idle;
     }
-    let message = number_at(ledger, 8);
+    let message = u32::read_at(ledger, 8);
     match ledger[5] {
         2 => Outcome::Fill(message),
         3 => Outcome::Take(message),
@@ -65,16 +75,19 @@ fn outcome_in(word: u64, ledger: &[u8]) -> Outcome
 
 // The step call: the event's outcome and its traffic, and the image as the event leaves it; or the refusal of its
 // verdict.
-pub fn step(image: &mut [u8], event: &[u8]) -> StepAnswer
-    ensures answer { in_numbers result ≡ step_answer image.old event.now }
+pub fn step(image: &mut [u8], event: &[u8]) -> Answer<Stepped>
+    ensures answer { in_numbers values_of result ≡ step_answer image.old event.now }
     ensures buffer { image.new ≡ step_image image.old event.now }
 {
     let verdict = step_verdict(image, event);
-    let Verdict::Fine = verdict else {
-        return StepAnswer::Refused(refusal_of(verdict));
+    let Ok(()) = verdict else {
+        return Err(verdict.unwrap_err());
     };
     // a run of one event
     let mut ledger = [0u8; 12];
-    let word = turns(image, event, 0, 0, 1, &mut ledger, 0);
-    StepAnswer::Done(outcome_in(word, &ledger), traffic_in(word))
+    let word = turns(image, event, 0, &mut ledger, 0);
+    Ok(Stepped {
+        outcome: outcome_in(word, &ledger),
+        traffic: traffic_in(word),
+    })
 }

@@ -1,11 +1,10 @@
--- An answer that is neither yes nor no is refused: for callers, who take it apart twice.
+-- An answer that is neither yes nor no is refused: for a caller that takes it apart by its values.
+use Rattle.std.specs.Prelude.{Bool, true, false, Result, Err, Ok}
 use mathlib.Core.Path.{◌≡◌, refl}
-use Rattle.stopped.specs.declared.StoppedAnswer.{StoppedAnswer}
-use Rattle.stopped.specs.declared.StoppedAnswer.TheVariants.{Yes, No, Refused}
-use Rattle.stopped.specs.Stopped.{refusal_of}
+use Rattle.machine.specs.declared.Refusal.{Refusal}
 
 -- each fact is what a let .. else leaves of its answer
-pub neither_refused : (a : StoppedAnswer) → (a ≡ Yes → ⊥) → (a ≡ No → ⊥) → a ≡ Refused (refusal_of a)
-neither_refused Yes not_yes _ = absurd (not_yes refl)
-neither_refused No _ not_no = absurd (not_no refl)
-neither_refused (Refused r) _ _ = refl
+pub neither_refused : (a : Result Bool Refusal) → (a ≡ Ok true → ⊥) → (a ≡ Ok false → ⊥) → (r : Refusal) × (a ≡ Err r)
+neither_refused (Ok true) not_yes _ = absurd (not_yes refl)
+neither_refused (Ok false) _ not_no = absurd (not_no refl)
+neither_refused (Err r) _ _ = (r, refl)

@@ -1,13 +1,14 @@
 -- Each way through the stopped call is the rule's. The answers of lower functions are
 -- variables here, each with the rule's value that it is known to be.
+use Rattle.std.specs.Prelude.{Err, Ok}
 use Prim.Native.Nat.{ℕ, ◌+◌, ◌*◌, ◌≤◌}
 use mathlib.Core.Path.{◌≡◌, sym, ◌∙◌}
-use mathlib.Core.Bool.{Bool, true, false, ◌&&◌}
+use mathlib.Core.Bool.{Bool, true, ◌&&◌}
 use mathlib.Core.List.{List, [], ◌∷◌}
 use native.Mathlib.Omega.{arith}
 use lib.ListN.{length}
 use Rattle.machine.specs.declared.Refusal.{Refusal}
-use Rattle.machine.specs.declared.Verdict.TheVariants as verdict
+use Rattle.machine.specs.Bytes.{bit}
 use Rattle.machine.specs.Image.{envelope_in, size_in, state_in}
 use Rattle.machine.specs.Stopped.{quiet, stopped}
 use Rattle.machine.specs.Sound.{header_fits, records_fit, rest_fits, sound}
@@ -28,12 +29,12 @@ records_of s ok =
     and_second a b (and_first (a && b) (rest_fits (state_in s)) ok)
 
 module _ (s : List ℕ) where
-  pub stopped_refused : {r : Refusal} → image_verdict s ≡ verdict.Refused r
-      → answer (verdict.Refused r) [] ≡ stopped_answer s
+  pub stopped_refused : {r : Refusal} → image_verdict s ≡ Err r
+      → answer (Err r) [] ≡ stopped_answer s
   unfolding stopped_answer
   stopped_refused e = rw e
 
-  module _ (fine : image_verdict s ≡ verdict.Fine) {n : ℕ} (size : n ≡ size_in s) where
+  module _ (fine : image_verdict s ≡ Ok tt) {n : ℕ} (size : n ≡ size_in s) where
     -- the whole image lies in the buffer, and its records' bytes are in range
     pub may_walk : (n ≤ 64) × (16 + 8 * n ≤ length s) × (records_fit s n ≡ true)
     may_walk =
@@ -44,10 +45,9 @@ module _ (s : List ℕ) where
     unfolding stopped state_in
     walked quiet = quiet (envelope_in s) ∙ rw size
 
-    pub stopped_yes : {b : Bool} → QuietAre s n b → b ≡ true → answer verdict.Fine (1 ∷ []) ≡ stopped_answer s
+    pub stopped_done : {b : Bool} → QuietAre s n b → answer (Ok tt) (bit b ∷ []) ≡ stopped_answer s
     unfolding stopped_answer
-    stopped_yes quiet h = rw (fine, sym (walked quiet) ∙ h)
+    stopped_done quiet = rw (fine, sym (walked quiet))
 
-    pub stopped_no : {b : Bool} → QuietAre s n b → b ≡ false → answer verdict.Fine (0 ∷ []) ≡ stopped_answer s
-    unfolding stopped_answer
-    stopped_no quiet h = rw (fine, sym (walked quiet) ∙ h)
+-- what is known of the image, and the way through the call on which it is refused
+pub ruleset before_walk = (image_fine, may_walk, stopped_refused)

@@ -3,35 +3,14 @@
 #![tactic(auto)]
 
 ghost use Rattle.std.specs.Prelude.{◌≡◌, ◌+◌, ◌*◌, ◌≤◌, length, true};
-ghost use Rattle.machine.specs.Answers.{stopped_answer};
+ghost use Rattle.machine.specs.Answers.{in_numbers, stopped_answer};
 ghost use Rattle.machine.specs.Sound.{records_fit};
-ghost use Rattle.stopped.specs.Stopped.{in_numbers, refusal_of, QuietAre};
+ghost use Rattle.numbers.specs.Values.{of_bool};
+ghost use Rattle.stopped.specs.Stopped.{QuietAre};
 
-use little_endian::{eight_at, wide};
-use machine::{Refusal, Verdict};
-use numbers::refusal_of;
+use little_endian::Word;
+use machine::Answer;
 use sound::image_verdict;
-
-// What the stopped call answers.
-#[derive(Clone, Copy)]
-pub enum StoppedAnswer {
-    Yes,
-    No,
-    Refused(Refusal),
-}
-
-impl StoppedAnswer {
-    // Internal: the refusal of a stopped call that is refused. No other is asked for it.
-    pub fn refusal(self) -> Refusal
-        ensures { result ≡ refusal_of self }
-    {
-        match self {
-            StoppedAnswer::Yes => Refusal::Output,
-            StoppedAnswer::No => Refusal::Output,
-            StoppedAnswer::Refused(refusal) => refusal,
-        }
-    }
-}
 
 // Whether nothing waits at the first n processes: no news, no envelope and no request on a link, and no stage that main
 // or get ends. Of stages 0 to 10 those are 1, 3, 4, 6, 8 and 9, where 13 * stage has bit 2 or bit 5. The envelope
@@ -42,24 +21,23 @@ fn are_quiet(image: &[u8], n: usize) -> bool
 {
     let mut any: u64 = 0;
     let mut stages: u64 = 0;
-    for i in 0..n {
-        let word = eight_at(image, 16 + 8 * i);
-        any = any | word;
-        stages = stages | 13 * (word % 256) & 36;
+    let (records, _) = image[16..16 + 8 * n].as_chunks::<8>();
+    for record in records {
+        let word = u64::read_at(record, 0);
+        any |= word;
+        stages |= 13 * (word % 256) & 36;
     }
     (any & 0xC0_0600 == 0) & (stages == 0)
 }
 
 // The stopped call: whether the ring is stopped; or the refusal of the image's verdict.
-pub fn stopped(image: &[u8]) -> StoppedAnswer
-    ensures { in_numbers result ≡ stopped_answer image.now }
+#[tactic(auto, using(crate::proofs::Ways::before_walk))]
+pub fn stopped(image: &[u8]) -> Answer<bool>
+    ensures { in_numbers of_bool result ≡ stopped_answer image.now }
 {
     let verdict = image_verdict(image);
-    let Verdict::Fine = verdict else {
-        return StoppedAnswer::Refused(refusal_of(verdict));
+    let Ok(()) = verdict else {
+        return Err(verdict.unwrap_err());
     };
-    if !are_quiet(image, wide(image[0])) {
-        return StoppedAnswer::No;
-    }
-    StoppedAnswer::Yes
+    Ok(are_quiet(image, usize::from(image[0])))
 }

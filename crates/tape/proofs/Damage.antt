@@ -3,6 +3,7 @@
 -- than 65,535, so the words' sum moves, and the check with it, and the check that it is compared with stands where it
 -- was; a byte of that check changed moves it. A word changed keeps the sum only where it moved by 65,535, which is 0
 -- and 65,535 exchanged; then the other sum is kept too, and the change is not seen.
+use Rattle.std.specs.Prelude.{Err, Ok}
 use Prim.Native.Nat.{ℕ, zero, suc, ◌+◌, ◌-◌, ◌*◌, ◌/◌, ◌%◌, ◌≤◌, ◌<◌}
 use mathlib.Core.Path.{◌≡◌, refl, sym, ap, ◌∙◌, subst}
 use mathlib.Core.List.{List, [], ◌∷◌}
@@ -12,7 +13,6 @@ use lib.ListN.{length, get_or, set, length-set}
 use lib.Seq.{get_or-set_same, get_or-set_other, set-get_or}
 use borrow.Author.Tests.{ne_eqb}
 use Rattle.machine.specs.declared.Refusal.TheVariants as refusal
-use Rattle.machine.specs.declared.Verdict.TheVariants.{Fine, Refused}
 use Rattle.machine.specs.Bytes.{part, bytes, Bytes}
 use Rattle.machine.specs.Tape.{check, covered, block_check}
 use Rattle.machine.specs.Refusals.{first, length_verdict, most_blocks, check_verdict, block_verdict, tape_verdict}
@@ -30,16 +30,16 @@ use Rattle.tape.proofs.Word.{Word, word_in, with_word, same_block_check, word_st
 -- ---- an accepted tape of which block b has another check
 
 block_refused : (codes n : ℕ) (t : List ℕ) (b : ℕ) → (check (covered t b) ≡ block_check t b → ⊥)
-    → block_verdict codes n t b ≡ Refused (refusal.Check b)
+    → block_verdict codes n t b ≡ Err (refusal.Check b)
 unfolding block_verdict check_verdict
 block_refused codes n t b differ = rw (ne_eqb (check (covered t b)) (block_check t b) differ)
 
 -- where the blocks before it are the same, so is the tape
-tape_refused : (codes n : ℕ) (s t : List ℕ) (b : ℕ) → tape_verdict codes n s ≡ Fine → b < length s / 512
+tape_refused : (codes n : ℕ) (s t : List ℕ) (b : ℕ) → tape_verdict codes n s ≡ Ok tt → b < length s / 512
     → length t ≡ length s
     → ((c : ℕ) → c < b → part t (512 * c) 512 ≡ part s (512 * c) 512)
     → (check (covered t b) ≡ block_check t b → ⊥)
-    → tape_verdict codes n t ≡ Refused (refusal.Check b)
+    → tape_verdict codes n t ≡ Err (refusal.Check b)
 unfolding tape_verdict length_verdict
 tape_refused codes n s t b fine h long same differ =
     let blocks = length s / 512 in
@@ -53,11 +53,11 @@ tape_refused codes n s t b fine h long same differ =
 -- ---- one word
 
 -- any other word, unless 0 and 65,535 are exchanged
-pub one_word : (codes n : ℕ) (s : List ℕ) (b p x y : ℕ) → Bytes s → tape_verdict codes n s ≡ Fine
+pub one_word : (codes n : ℕ) (s : List ℕ) (b p x y : ℕ) → Bytes s → tape_verdict codes n s ≡ Ok tt
     → b < length s / 512 → Word p → x < 256 → y < 256
     → (word_in s (512 * b + p) ≡ x + 256 * y → ⊥)
     → (Exchanged (word_in s (512 * b + p)) (x + 256 * y) → ⊥)
-    → tape_verdict codes n (with_word s (512 * b + p) x y) ≡ Refused (refusal.Check b)
+    → tape_verdict codes n (with_word s (512 * b + p) x y) ≡ Err (refusal.Check b)
 one_word codes n s b p x y small fine h word low high other whole =
     let at = 512 * b + p in
     let t = with_word s at x y in
@@ -124,13 +124,13 @@ lower_kept : (a c v : ℕ) → c < 256 → v < 256 → Exchanged (a + 256 * c) (
 lower_kept a c v old new (inl h) = omega arith
 lower_kept a c v old new (inr h) = omega arith
 
-module _ (codes n : ℕ) (s : List ℕ) (b v : ℕ) (small : Bytes s) (fine : tape_verdict codes n s ≡ Fine)
+module _ (codes n : ℕ) (s : List ℕ) (b v : ℕ) (small : Bytes s) (fine : tape_verdict codes n s ≡ Ok tt)
     (h : b < length s / 512) (new : v < 256)
   where
     -- byte p of block b changed to v is refused by that block's check
     abbrev Caught : ℕ → Type 0
     Caught p =
-        (v ≡ get_or s (512 * b + p) 0 → ⊥) → tape_verdict codes n (set s (512 * b + p) v) ≡ Refused (refusal.Check b)
+        (v ≡ get_or s (512 * b + p) 0 → ⊥) → tape_verdict codes n (set s (512 * b + p) v) ≡ Err (refusal.Check b)
 
     lower_caught : (p : ℕ) → Word p → Caught p
     lower_caught p word other =
@@ -181,9 +181,9 @@ module _ (codes n : ℕ) (s : List ℕ) (b v : ℕ) (small : Bytes s) (fine : ta
         go (inr low) (inr high) = in_word (inr high) (lt_or_ge (p % 2) 1)
 
 -- any one byte, the check's own among them
-pub one_byte : (codes n : ℕ) (s : List ℕ) (k v : ℕ) → Bytes s → tape_verdict codes n s ≡ Fine → k < length s → v < 256
+pub one_byte : (codes n : ℕ) (s : List ℕ) (k v : ℕ) → Bytes s → tape_verdict codes n s ≡ Ok tt → k < length s → v < 256
     → (v ≡ get_or s k 0 → ⊥)
-    → tape_verdict codes n (set s k v) ≡ Refused (refusal.Check (k / 512))
+    → tape_verdict codes n (set s k v) ≡ Err (refusal.Check (k / 512))
 one_byte codes n s k v small fine h new other =
     let b = k / 512 in
     let p = k % 512 in

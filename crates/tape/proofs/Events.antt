@@ -1,5 +1,6 @@
 -- The events of an accepted tape, as a run takes them: event k is the one in slot k % 63 of block k / 63, it is at a
 -- process of the ring, and its message has 32 bits.
+use Rattle.std.specs.Prelude.{Ok}
 use Prim.Native.Nat.{ℕ, ◌+◌, ◌*◌, ◌/◌, ◌%◌, ◌^◌, ◌≤◌, ◌<◌}
 use mathlib.Core.Path.{◌≡◌, ap, ◌∙◌}
 use mathlib.Core.Bool.{true}
@@ -9,7 +10,6 @@ use native.Mathlib.Numerals.{add-one}
 use lib.ListN.{length, get_or, take}
 use lib.Seq.{take-suc}
 use borrow.Author.Tests.{lt-ltb}
-use Rattle.machine.specs.declared.Verdict.TheVariants.{Fine}
 use Rattle.machine.specs.Bytes.{Bytes}
 use Rattle.machine.specs.Lists.{all}
 use Rattle.machine.specs.Events.{Event}
@@ -34,7 +34,7 @@ pub length_events : (s : List ℕ) → length (run_events s) ≡ events_on s
 unfolding run_events events_in
 length_events s = length_tabulate (λ k. event_in (list_of s) (8 * k)) 0 (events_on s)
 
-module _ (codes n : ℕ) (s : List ℕ) (accepted : tape_verdict codes n s ≡ Fine) where
+module _ (codes n : ℕ) (s : List ℕ) (accepted : tape_verdict codes n s ≡ Ok tt) where
   -- what the tape has
   tape : TapeFine codes n s
   tape = tape_fine codes n s accepted

@@ -1,5 +1,6 @@
 -- Each way through the reader is that way through the rule: refused by what it is given or by the room, and done, where
 -- the events unpacked are the tape's list.
+use Rattle.std.specs.Prelude.{Err, Ok}
 use Prim.Native.Nat.{ℕ, ◌+◌, ◌-◌, ◌*◌, ◌/◌, ◌^◌, ◌≤◌, ◌<◌}
 use mathlib.Core.Path.{◌≡◌, ap, ◌∙◌}
 use mathlib.Core.List.{List, [], ◌∷◌}
@@ -8,8 +9,7 @@ use native.Mathlib.Omega.{arith}
 use lib.ListN.{length}
 use Rattle.machine.specs.declared.Refusal.{Refusal}
 use Rattle.machine.specs.declared.Refusal.TheVariants as refusal
-use Rattle.machine.specs.declared.Verdict.{Verdict}
-use Rattle.machine.specs.declared.Verdict.TheVariants.{Fine, Refused}
+use Rattle.machine.specs.Verdict.{Verdict}
 use Rattle.machine.specs.Bytes.{part, splice}
 use Rattle.machine.specs.Lists.{join, tabulate}
 use Rattle.machine.specs.Tape.{block_count, slot_at, used_slots, list_of}
@@ -60,12 +60,12 @@ module _ (n : ℕ) (tape output : List ℕ) where
   unfolding read_verdict
   in_turn = else_else (size_verdict n) (tape_verdict codes n tape) (output_verdict (length (list_of tape)) output)
 
-  pub read_refused : {r : Refusal} → given ≡ Refused r → Read n tape output (Refused r) [] output
+  pub read_refused : {r : Refusal} → given ≡ Err r → Read n tape output (Err r) [] output
   unfolding read_answer read_output
   read_refused = inputs_refused given (read_verdict n tape output) (list_of tape) output in_turn
 
-  module _ (fine : given ≡ Fine) where
-    accepted : tape_verdict codes n tape ≡ Fine
+  module _ (fine : given ≡ Ok tt) where
+    accepted : tape_verdict codes n tape ≡ Ok tt
     accepted = second_fine (size_verdict n) _ fine
 
     pub read_accepted : Accepted tape
@@ -82,13 +82,13 @@ module _ (n : ℕ) (tape output : List ℕ) where
           let range = events_ranged tape facts in
           (omega (arith, range.most, facts.most), omega (arith, range.least))
 
-      pub read_short : length output < 8 * events → Read n tape output (Refused refusal.Output) [] output
+      pub read_short : length output < 8 * events → Read n tape output (Err refusal.Output) [] output
       unfolding read_answer read_output
       read_short = room_refused given (read_verdict n tape output) (list_of tape) output in_turn fine long
 
       pub read_done : {t : List ℕ} → 8 * events ≤ length output
           → t ≡ splice output 0 (join (tabulate (taken_from tape (8 * events)) 0 (length tape / 512)))
-          → Read n tape output Fine (8 * events ∷ []) t
+          → Read n tape output (Ok tt) (8 * events ∷ []) t
       unfolding read_answer read_output
       read_done room wrote =
           output_filled given (read_verdict n tape output) (list_of tape) output in_turn fine long room

@@ -3,6 +3,7 @@
 -- its events make, since the blocks before it have 512 bytes each; its count and its used slots give the events back,
 -- and 63 events a block join to the list. The other way round, an accepted block is made of its number, count and check
 -- as they were read, each byte below 256, its used slots and zeros: so it is the block that its events make.
+use Rattle.std.specs.Prelude.{Ok}
 use Prim.Native.Nat.{ℕ, zero, ◌+◌, ◌-◌, ◌*◌, ◌/◌, ◌%◌, ◌≤◌, ◌<◌}
 use mathlib.Core.Path.{◌≡◌, sym, ap, ap₂, ◌∙◌}
 use mathlib.Core.Bool.{true}
@@ -10,7 +11,6 @@ use mathlib.Core.List.{List, ◌++◌}
 use native.Mathlib.Omega.{arith}
 use lib.ListN.{length, take, replicate, length-replicate}
 use lib.Seq.{take_all, take_at, drop_at}
-use Rattle.machine.specs.declared.Verdict.TheVariants.{Fine}
 use Rattle.machine.specs.Bytes.{part, bytes, all_zero, zeros, Bytes}
 use Rattle.machine.specs.Tape.{covered, block_count, slot_at, used_slots, list_of}
 use Rattle.machine.specs.Tape.{block_bytes, slots_for, padded, block_for, blocks_for, tape_of}
@@ -113,8 +113,8 @@ module _ {codes n : ℕ} (list : List ℕ) (fine : ListFine codes n list) where
       ∙ joined_parts list 504 0 blocks
       ∙ take_all (504 * blocks) list (omega arith))
 
-module _ (codes n : ℕ) (list : List ℕ) (fine : list_verdict codes n list ≡ Fine) where
-  pub written_accepted : tape_verdict codes n (tape_of list) ≡ Fine
+module _ (codes n : ℕ) (list : List ℕ) (fine : list_verdict codes n list ≡ Ok tt) where
+  pub written_accepted : tape_verdict codes n (tape_of list) ≡ Ok tt
   written_accepted = fine_tape codes n (tape_of list) (tape_accepted list (list_fine codes n list fine))
 
   pub read_written : list_of (tape_of list) ≡ list
@@ -197,9 +197,9 @@ module _ {codes n : ℕ} (s : List ℕ) (fine : TapeFine codes n s) where
       ∙ take_all (512 * blocks) s (omega arith))
 
 module _ (codes n : ℕ) (s : List ℕ) where
-  pub read_accepted : tape_verdict codes n s ≡ Fine → list_verdict codes n (list_of s) ≡ Fine
+  pub read_accepted : tape_verdict codes n s ≡ Ok tt → list_verdict codes n (list_of s) ≡ Ok tt
   read_accepted fine = fine_list codes n (list_of s) (list_accepted s (tape_fine codes n s fine))
 
   -- an accepted tape is what the writer makes of its events
-  pub written_read : Bytes s → tape_verdict codes n s ≡ Fine → tape_of (list_of s) ≡ s
+  pub written_read : Bytes s → tape_verdict codes n s ≡ Ok tt → tape_of (list_of s) ≡ s
   written_read small fine = tape_again s (tape_fine codes n s fine) small

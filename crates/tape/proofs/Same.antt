@@ -1,13 +1,13 @@
 -- A block's verdict depends on that block's bytes alone, and on the tape's length: every byte that a test reads stands
 -- in the block, since a count above 63 is refused before a slot is read.
+use Rattle.std.specs.Prelude.{Err, Ok}
 use Prim.Native.Nat.{ℕ, ◌+◌, ◌-◌, ◌*◌, ◌≤◌}
 use mathlib.Core.Path.{◌≡◌, refl, ap, ap₂}
 use mathlib.Core.List.{List}
 use native.Mathlib.Omega.{arith}
 use lib.ListN.{length}
 use Rattle.machine.specs.declared.Refusal.TheVariants as refusal
-use Rattle.machine.specs.declared.Verdict.{Verdict}
-use Rattle.machine.specs.declared.Verdict.TheVariants.{Fine, Refused}
+use Rattle.machine.specs.Verdict.{Verdict}
 use Rattle.machine.specs.Bytes.{part, little_endian_of, number, zeros}
 use Rattle.machine.specs.Tape.{covered, block_count, slot_at}
 use Rattle.machine.specs.Refusals.{or_else, check_verdict, block_fits, number_verdict}
@@ -18,9 +18,9 @@ use Rattle.tape_test.proofs.Blocks.{fits_most, slot_test}
 use Rattle.tape.proofs.Parts.{same_part, same_fits}
 
 -- a later test counts only where the earlier one passes
-same_rest : (v w x : Verdict) → (v ≡ Fine → w ≡ x) → or_else v w ≡ or_else v x
-same_rest Fine w x same = same refl
-same_rest (Refused r) w x same = refl
+same_rest : (v w x : Verdict) → (v ≡ Ok tt → w ≡ x) → or_else v w ≡ or_else v x
+same_rest (Ok _) w x same = same refl
+same_rest (Err r) w x same = refl
 
 module _ (s t : List ℕ) (b : ℕ) (same : part s (512 * b) 512 ≡ part t (512 * b) 512) where
   -- what stands in the block

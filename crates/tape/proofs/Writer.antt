@@ -1,5 +1,6 @@
 -- Each way through the writer is that way through the rule: refused by what it is given or by the room, and done, where
 -- the blocks packed are the list's tape.
+use Rattle.std.specs.Prelude.{Err, Ok}
 use Prim.Native.Nat.{ℕ, ◌*◌, ◌/◌, ◌≤◌, ◌<◌}
 use mathlib.Core.Path.{◌≡◌, ap, ◌∙◌}
 use mathlib.Core.List.{List, [], ◌∷◌}
@@ -7,8 +8,7 @@ use native.Mathlib.Omega.{arith}
 use lib.ListN.{length}
 use Rattle.machine.specs.declared.Refusal.{Refusal}
 use Rattle.machine.specs.declared.Refusal.TheVariants as refusal
-use Rattle.machine.specs.declared.Verdict.{Verdict}
-use Rattle.machine.specs.declared.Verdict.TheVariants.{Fine, Refused}
+use Rattle.machine.specs.Verdict.{Verdict}
 use Rattle.machine.specs.Bytes.{splice}
 use Rattle.machine.specs.Lists.{join, tabulate}
 use Rattle.machine.specs.Tape.{block_for, blocks_for, tape_of}
@@ -39,11 +39,11 @@ module _ (n : ℕ) (list output : List ℕ) where
   unfolding write_verdict
   in_turn = else_else (size_verdict n) (list_verdict codes n list) (output_verdict (length (tape_of list)) output)
 
-  pub write_refused : {r : Refusal} → given ≡ Refused r → Wrote n list output (Refused r) [] output
+  pub write_refused : {r : Refusal} → given ≡ Err r → Wrote n list output (Err r) [] output
   unfolding write_answer write_output
   write_refused = inputs_refused given (write_verdict n list output) (tape_of list) output in_turn
 
-  module _ (fine : given ≡ Fine) where
+  module _ (fine : given ≡ Ok tt) where
     pub write_events : length list / 8 ≤ 4128768
     write_events = (list_fine codes n list (second_fine (size_verdict n) _ fine)).most
 
@@ -51,13 +51,13 @@ module _ (n : ℕ) (list output : List ℕ) where
       long : 512 * blocks ≡ length (tape_of list)
       long = omega (arith, length_tape list)
 
-      pub write_short : length output < 512 * blocks → Wrote n list output (Refused refusal.Output) [] output
+      pub write_short : length output < 512 * blocks → Wrote n list output (Err refusal.Output) [] output
       unfolding write_answer write_output
       write_short = room_refused given (write_verdict n list output) (tape_of list) output in_turn fine long
 
       pub write_done : {t : List ℕ} → 512 * blocks ≤ length output
           → t ≡ splice output 0 (join (tabulate (block_for list) 0 blocks))
-          → Wrote n list output Fine (512 * blocks ∷ []) t
+          → Wrote n list output (Ok tt) (512 * blocks ∷ []) t
       unfolding write_answer write_output
       write_done room wrote =
           output_filled given (write_verdict n list output) (tape_of list) output in_turn fine long room

@@ -1,6 +1,7 @@
 -- What an accepted tape and an accepted list have, and that whatever has it is accepted: each verdict is a row of
 -- tests, taken apart here once, in both directions. The loops keep that the row from here on decides for all, since
 -- what came before is fine (machine/proofs/Laws/First); inside a block the same holds of its slots (Ways).
+use Rattle.std.specs.Prelude.{Ok}
 use Prim.Native.Nat.{ℕ, ◌+◌, ◌-◌, ◌*◌, ◌/◌, ◌≤◌, ◌<◌}
 use mathlib.Core.Path.{◌≡◌, refl}
 use mathlib.Core.Bool.{Bool, true, false, ◌&&◌, ◌||◌, or-true}
@@ -10,8 +11,7 @@ use lib.ListN.{length}
 use lib.Dec.{eqb, leb}
 use borrow.Author.Tests.{eqb-true, eqb-false, leb-true, eq-eqb, le-leb}
 use Rattle.machine.specs.declared.Refusal.TheVariants as refusal
-use Rattle.machine.specs.declared.Verdict.{Verdict}
-use Rattle.machine.specs.declared.Verdict.TheVariants.{Fine}
+use Rattle.machine.specs.Verdict.{Verdict}
 use Rattle.machine.specs.Bytes.{zeros}
 use Rattle.machine.specs.Tape.{check, covered, slot_at, block_number, block_count, block_check}
 use Rattle.machine.specs.Refusals.{unless, or_else, first, event_fits, length_verdict, most_blocks, most_events}
@@ -37,7 +37,7 @@ module _ (codes n : ℕ) (s : List ℕ) where
   abbrev pub event_test : ℕ → Verdict
   event_test k = unless (event_fits codes n s (8 * k)) (refusal.Event k)
 
-  pub list_fine : list_verdict codes n s ≡ Fine → ListFine codes n s
+  pub list_fine : list_verdict codes n s ≡ Ok tt → ListFine codes n s
   unfolding list_verdict
   list_fine e =
       let long = length_verdict 8 most_events s in
@@ -51,7 +51,7 @@ module _ (codes n : ℕ) (s : List ℕ) where
             λ k h. unless_fine (event_fits codes n s (8 * k)) (refusal.Event k) (all k (omega arith) (omega arith));
       }
 
-  pub fine_list : ListFine codes n s → list_verdict codes n s ≡ Fine
+  pub fine_list : ListFine codes n s → list_verdict codes n s ≡ Ok tt
   unfolding list_verdict
   fine_list h =
       let size : LengthFine 8 most_events s = record { whole = omega arith; few = h.most } in
@@ -99,7 +99,7 @@ module _ (codes n : ℕ) (s : List ℕ) (b : ℕ) where
   abbrev pub slot_test : ℕ → Verdict
   slot_test j = unless (event_fits codes n s (slot_at b j)) (refusal.Event (63 * b + j))
 
-  block_fine : block_verdict codes n s b ≡ Fine → BlockFine codes n s b
+  block_fine : block_verdict codes n s b ≡ Ok tt → BlockFine codes n s b
   unfolding block_verdict check_verdict number_verdict block_fits used_verdict unused_verdict
   block_fine e =
       let a = check_verdict s b in
@@ -131,7 +131,7 @@ module _ (codes n : ℕ) (s : List ℕ) (b : ℕ) where
         unused = unless_fine _ (refusal.Unused b) (second_fine d f from_d);
       }
 
-  pub fine_block : b < length s / 512 → BlockFine codes n s b → block_verdict codes n s b ≡ Fine
+  pub fine_block : b < length s / 512 → BlockFine codes n s b → block_verdict codes n s b ≡ Ok tt
   unfolding block_verdict check_verdict number_verdict block_fits used_verdict unused_verdict
   fine_block below h = rw (
     eq-eqb (check (covered s b)) (block_check s b) h.checked,
@@ -152,7 +152,7 @@ pub record TapeFine (codes n : ℕ) (s : List ℕ) : Type 0 where
   pub blocks : (b : ℕ) → b < length s / 512 → BlockFine codes n s b
 
 module _ (codes n : ℕ) (s : List ℕ) where
-  pub tape_fine : tape_verdict codes n s ≡ Fine → TapeFine codes n s
+  pub tape_fine : tape_verdict codes n s ≡ Ok tt → TapeFine codes n s
   unfolding tape_verdict
   tape_fine e =
       let long = length_verdict 512 most_blocks s in
@@ -165,7 +165,7 @@ module _ (codes n : ℕ) (s : List ℕ) where
         blocks = λ b h. block_fine codes n s b (all b (omega arith) (omega arith));
       }
 
-  pub fine_tape : TapeFine codes n s → tape_verdict codes n s ≡ Fine
+  pub fine_tape : TapeFine codes n s → tape_verdict codes n s ≡ Ok tt
   unfolding tape_verdict
   fine_tape h =
       let size : LengthFine 512 most_blocks s = record { whole = omega arith; few = h.most } in

@@ -2,3 +2,4 @@
 pub mod Blocks
 pub mod Lengths
 pub mod Ways
+pub mod Slots

@@ -4,11 +4,11 @@
 
 ghost use Rattle.std.specs.Prelude.{◌≡◌, ◌+◌, ◌*◌, ◌≤◌, ◌<◌, length};
 ghost use Rattle.machine.specs.Refusals as rule;
-ghost use Rattle.tape_test.specs.Accepted.{head_verdict, events_on, Accepted};
+ghost use Rattle.tape_test.specs.Accepted.{HeadOf, events_on, Accepted};
 
 use checksum::check_of;
 use event::Event;
-use little_endian::{number_at, word_at};
+use little_endian::Word;
 use machine::{Refusal, Verdict};
 use span::is_clear;
 
@@ -18,35 +18,26 @@ pub fn length_verdict(bytes: &[u8], unit: usize, most: usize) -> Verdict
     ensures { result ≡ rule.length_verdict unit most bytes.now }
 {
     let fits = (bytes.len() % unit == 0) & (bytes.len() / unit <= most);
-    if fits {
-        Verdict::Fine
-    } else {
-        Verdict::Refused(Refusal::Length)
-    }
+    if fits { Ok(()) } else { Err(Refusal::Length) }
 }
 
 // The most blocks that a tape has.
 const MOST_BLOCKS: usize = 65536;
 
-// The verdict of a block's head: refused with 7 for its check, 8 for its number or its count.
-fn head_verdict(tape: &[u8], b: usize) -> Verdict
-    requires { 512 * b + 512 ≤ length tape.now }
-    ensures { result ≡ head_verdict tape.now b }
+// The verdict of the head of block b of so many: refused with 7 for its check, 8 for its number or its count.
+fn head_verdict(block: &[u8; 512], b: usize, blocks: usize) -> Verdict
+    requires { b < blocks }
+    ensures { HeadOf block.now b blocks result }
 {
-    let start = 512 * b;
-    let written = number_at(tape, start + 4);
-    if check_of(tape, b) != written {
-        return Verdict::Refused(Refusal::Check(b));
+    let written = u32::read_at(block, 4);
+    if check_of(block) != written {
+        return Err(Refusal::Check(b));
     }
-    let number = word_at(tape, start) as usize;
-    let count = word_at(tape, start + 2) as usize;
-    let last = b + 1 == tape.len() / 512;
+    let number = usize::from(u16::read_at(block, 0));
+    let count = usize::from(u16::read_at(block, 2));
+    let last = b + 1 == blocks;
     let fits = (number == b) & (1 <= count) & (count <= 63) & ((count == 63) | last);
-    if fits {
-        Verdict::Fine
-    } else {
-        Verdict::Refused(Refusal::Block(b))
-    }
+    if fits { Ok(()) } else { Err(Refusal::Block(b)) }
 }
 
 // Internal: a tape's verdict, for n processes and so many codes: block by block its head, its events slot by slot, and
@@ -55,25 +46,26 @@ pub fn tape_verdict(tape: &[u8], n: usize, codes: u8) -> Verdict
     ensures { result ≡ rule.tape_verdict codes n tape.now }
 {
     let mut verdict = length_verdict(tape, 512, MOST_BLOCKS);
-    let Verdict::Fine = verdict else {
+    let Ok(()) = verdict else {
         return verdict;
     };
-    'blocks: for b in 0..tape.len() / 512 {
-        let head = head_verdict(tape, b);
-        let Verdict::Fine = head else {
+    let (blocks, _) = tape.as_chunks::<512>();
+    'blocks: for (b, block) in blocks.iter().enumerate() {
+        let head = head_verdict(block, b, blocks.len());
+        let Ok(()) = head else {
             verdict = head;
             break 'blocks;
         };
-        let count = word_at(tape, 512 * b + 2) as usize;
-        let slots = 512 * b + 8;
-        for j in 0..count {
-            if !Event::fits(tape, slots + 8 * j, n, codes) {
-                verdict = Verdict::Refused(Refusal::Event(63 * b + j));
+        let count = usize::from(u16::read_at(block, 2));
+        let (slots, _) = block[8..].as_chunks::<8>();
+        for (j, slot) in slots[..count].iter().enumerate() {
+            if !Event::fits(slot, n, codes) {
+                verdict = Err(Refusal::Event(63 * b + j));
                 break 'blocks;
             }
         }
-        if !is_clear(tape, slots + 8 * count, 8 * (63 - count)) {
-            verdict = Verdict::Refused(Refusal::Unused(b));
+        if !is_clear(&block[8 + 8 * count..512]) {
+            verdict = Err(Refusal::Unused(b));
             break 'blocks;
         }
     }
@@ -85,13 +77,13 @@ pub fn list_verdict(list: &[u8], n: usize, codes: u8) -> Verdict
     ensures { result ≡ rule.list_verdict codes n list.now }
 {
     let verdict = length_verdict(list, 8, 63 * MOST_BLOCKS);
-    let Verdict::Fine = verdict else {
+    let Ok(()) = verdict else {
         return verdict;
     };
-    let events = list.len() / 8;
-    for k in 0..events {
-        if !Event::fits(list, 8 * k, n, codes) {
-            return Verdict::Refused(Refusal::Event(k));
+    let (slots, _) = list.as_chunks::<8>();
+    for (k, slot) in slots.iter().enumerate() {
+        if !Event::fits(slot, n, codes) {
+            return Err(Refusal::Event(k));
         }
     }
     verdict
@@ -106,6 +98,6 @@ pub fn event_count(tape: &[u8]) -> usize
         return 0;
     }
     let last = tape.len() / 512 - 1;
-    let count = word_at(tape, 512 * last + 2) as usize;
+    let count = usize::from(u16::read_at(tape, 512 * last + 2));
     63 * last + count
 }

@@ -1,21 +1,20 @@
 -- Pieces of text one after the other are one piece.
-use Prim.Native.Nat.{ℕ, ◌+◌, ◌/◌, ◌%◌, ◌≤◌, ◌<◌}
-use mathlib.Core.Path.{◌≡◌, ap, subst, ◌∙◌}
+use Prim.Native.Nat.{ℕ, ◌+◌, ◌-◌, ◌%◌, ◌≤◌, ◌<◌, ◌^◌}
+use mathlib.Core.Path.{◌≡◌, ap, subst, sym, ◌∙◌}
 use mathlib.Core.List.{List, [], ◌∷◌, ◌++◌}
 use native.Mathlib.Omega.{arith}
-use lib.ListN.{length, set, length-append}
-use lib.Seq.{take-length}
-use Rattle.machine.specs.Bytes.{part, splice}
+use lib.ListN.{length, length-append}
+use borrow.Rule.Slice.PartMut.{put_mid, Post-is}
+use Rattle.std.specs.Fmt as std
+use Rattle.std.proofs.lemmas.Fmt.{decimal_by_steps}
+use Rattle.machine.specs.Bytes.{splice}
 use Rattle.machine.specs.Text.{decimal}
 use Rattle.machine.proofs.Laws.Bytes.{length_splice, splice_next}
-use Rattle.machine.proofs.Text.{decimal_one, decimal_more, length_one, length_more}
+use Rattle.machine.proofs.Text.{decimal_one, decimal_more}
 use Rattle.machine.proofs.Laws.Splices.{splice_none}
-use Rattle.span.proofs.Laws.{splice_one}
+use Rattle.text.specs.declared.Page.{Page}
 use Rattle.text.specs.Piece.{Piece}
-
--- the same piece, said otherwise
-pub piece_is : {s t : List ℕ} {at end : ℕ} {a b : List ℕ} → a ≡ b → Piece s at a t end → Piece s at b t end
-piece_is {s} {t} {at} {end} e put = subst (λ (piece : List ℕ). Piece s at piece t end) e put
+use Rattle.text.specs.Puts.{Puts}
 
 -- nothing
 pub piece_none : (s : List ℕ) (at : ℕ) → at ≤ length s → Piece s at [] s at
@@ -43,41 +42,45 @@ module _ {s t : List ℕ} {at end : ℕ} {a : List ℕ} (first : Piece s at a t 
           ∙ ap (λ (k : ℕ). splice (splice s at a) k b) first.ends
           ∙ splice_next s at a b (omega (arith, first.within))
 
-  -- a piece, and then a byte
-  pub piece_byte : (x : ℕ) → end < length t → Piece s at (a ++ (x ∷ [])) (set t end x) (end + 1)
-  piece_byte x h =
-      let long = length-append a (x ∷ []) in
-      record {
-        within = omega (arith, piece_length, first.ends);
-        written = go;
-        ends = omega (arith, first.ends);
-      }
-    where
-      go : set t end x ≡ splice s at (a ++ (x ∷ []))
-      go =
-          ap (λ (y : List ℕ). set y end x) first.written
-          ∙ ap (λ (k : ℕ). set (splice s at a) k x) first.ends
-          ∙ splice_one s at a x (omega (arith, piece_length, first.ends))
+-- ---- put on a page
 
--- ---- as the functions write them
+-- a text copied over the bytes from the page's end on
+pub puts_copied : (before : Page) (text copied : List ℕ) → copied ≡ text
+    → put_mid before.end (before.end + length text - before.end) before.bytes.now copied
+    ≡ splice before.bytes.now before.end text
+unfolding splice
+puts_copied before text copied is =
+    rw (is, Post-is before.end (before.end + length text) before.bytes.now (omega arith))
 
--- a text copied
-pub piece_copied : (s t text : List ℕ) (at : ℕ) → at + length text ≤ length s
-    → t ≡ splice s at (part text 0 (length text))
-    → Piece s at text t (at + length text)
-piece_copied s t text at h is =
-    record { within = h; written = is ∙ ap (splice s at) (take-length text); ends = omega arith }
+-- that is what the page is then
+pub puts_written : {before after : Page} (text : List ℕ) → before.end + length text ≤ length before.bytes.now
+    → after.bytes.ghost_name ≡ before.bytes.ghost_name
+    → after.bytes.now ≡ splice before.bytes.now before.end text
+    → after.end ≡ before.end + length text
+    → Puts before text after
+puts_written {before} text h same written ends = record {
+  same = same;
+  long = ap length written ∙ length_splice before.bytes.now before.end text h;
+  piece = record { within = h; written = written; ends = ends };
+}
 
-module _ (s : List ℕ) (at n : ℕ) (h : at + length (decimal n) ≤ length s) where
-  -- a number below ten
-  pub piece_digit : n < 10 → Piece s at (decimal n) (set s at (48 + n)) (at + 1)
-  piece_digit one =
-      rw (decimal_one n one)
-      (piece_byte (piece_none s at (omega arith)) (48 + n) (omega (arith, length_one n one)))
+-- a text, and then another
+pub puts_then : {p q r : Page} {a b : List ℕ} → Puts p a q → Puts q b r → Puts p (a ++ b) r
+puts_then first second = record {
+  same = second.same ∙ first.same;
+  long = second.long ∙ first.long;
+  piece = piece_then first.piece second.piece;
+}
 
-  -- the last digit, behind those of a tenth
-  pub piece_last : {t : List ℕ} {end : ℕ} → 10 ≤ n → Piece s at (decimal (n / 10)) t end
-      → Piece s at (decimal n) (set t end (48 + n % 10)) (end + 1)
-  piece_last ten tenth =
-      rw (decimal_more n ten)
-      (piece_byte tenth (48 + n % 10) (omega (arith, length_more n ten, piece_length tenth, tenth.ends)))
+-- the same text, said otherwise
+pub puts_is : {p q : Page} {a b : List ℕ} → a ≡ b → Puts p a q → Puts p b q
+puts_is {p} {q} e puts = subst (λ (text : List ℕ). Puts p text q) e puts
+
+-- ---- a number in decimal
+
+-- std prints the same digits
+pub decimal_printed : (n : ℕ) → n < 2 ^ 64 → std.decimal n ≡ decimal n
+decimal_printed n h =
+    sym
+    (decimal_by_steps (λ (n : ℕ) (ds : List ℕ). decimal n ≡ ds) (λ n one. decimal_one n one)
+    (λ n ds ten tenth. decimal_more n ten ∙ ap (λ (l : List ℕ). l ++ ((48 + n % 10) ∷ [])) tenth) n h)

@@ -1,56 +1,90 @@
-// Text in ASCII, written into lent bytes: numbers in decimal, texts, and either as a field of a line, with the byte
-// that parts or ends it. Every function answers the place where the text goes on. Document 01, "The tape", its last
-// paragraph.
+// Text in ASCII, put on a page of lent bytes: a number in decimal or a word as a field of a line, with the byte that
+// parts or ends it. Document 01, "The tape", its last paragraph.
+//
+// std's `Display` and `write!` print the same digits, but no clause of theirs says that printing succeeds where there
+// is room; the kit's itoa always gives them.
 #![tactic(auto)]
 
-ghost use Rattle.std.specs.Prelude.{◌≡◌, [], ◌∷◌, ◌++◌, ◌+◌, ◌≤◌, length};
+ghost use Rattle.std.specs.Prelude.{◌≡◌, ℕ, List, [], ◌∷◌, ◌++◌, ◌+◌, length};
 ghost use Rattle.machine.specs.Text.{decimal};
-ghost use Rattle.text.specs.Piece.{Piece};
+ghost use Rattle.text.specs.Puts.{HasRoom, Puts};
 
-use span::copy;
+use itoa::Buffer;
 
-// Internal: a number in decimal, without leading zeros: its last digit goes behind those of a tenth of it.
-pub fn put_decimal(out: &mut [u8], at: usize, n: u64) -> usize
-    requires { at + length (decimal n) ≤ length out.old }
-    ensures { Piece out.old at (decimal n) out.new result }
-{
-    let single = n < 10;
-    if single {
-        out[at] = (48 + n) as u8;
-        return at + 1;
+// Internal: a page: lent bytes, and the place where the text goes on.
+#[derive(Drop)]
+pub struct Page<'a> {
+    pub bytes: &'a mut [u8],
+    pub end: usize,
+}
+
+impl<'a> Page<'a> {
+    // Internal: a page whose text begins at the start of the lent bytes.
+    pub fn new(bytes: &'a mut [u8]) -> Page<'a>
+        ensures same { result.bytes.ghost_name ≡ bytes.entry.ghost_name }
+        ensures bytes { result.bytes.now ≡ bytes.old }
+        ensures end { result.end ≡ 0 }
+    {
+        Page { bytes, end: 0 }
     }
-    let last = put_decimal(out, at, n / 10);
-    out[last] = (48 + n % 10) as u8;
-    last + 1
+
+    // Internal: bytes, as they are.
+    pub fn put(&mut self, text: &[u8])
+        requires { HasRoom self.old (length text.now) }
+        ensures { Puts self.old text.now self.new }
+    {
+        let end = self.end + text.len();
+        let bytes = &mut *self.bytes;
+        bytes[self.end..end].copy_from_slice(text);
+        self.end = end;
+    }
+
+    // Internal: a value as a field of a line, and the byte behind it.
+    pub fn field<F: Field>(&mut self, value: F, behind: u8)
+        requires { HasRoom self.old (length (F.spelled value) + 1) }
+        ensures text { Puts self.old (F.spelled value ++ (behind ∷ [])) self.new }
+        ensures end { self.new.end ≡ self.old.end + (length (F.spelled value) + 1) }
+    {
+        value.put_on(self);
+        self.put(&[behind]);
+    }
 }
 
-// Internal: a text.
-pub fn put_text(out: &mut [u8], at: usize, text: &[u8]) -> usize
-    requires { at + length text.now ≤ length out.old }
-    ensures { Piece out.old at text.now out.new result }
-{
-    copy(text, 0, out, at, text.len());
-    at + text.len()
+// Internal: a value that can be a field of a line.
+pub trait Field {
+    // The bytes that it is spelled with.
+    ghost spelled: { Self → List ℕ };
+
+    // Internal: those bytes, put on a page.
+    fn put_on(self, page: &mut Page<'_>)
+        requires { HasRoom page.old (length (spelled self)) }
+        ensures { Puts page.old (spelled self) page.new };
 }
 
-// Internal: a number as a field, and the byte behind it.
-pub fn decimal_field(out: &mut [u8], at: usize, n: u64, behind: u8) -> usize
-    requires { at + (length (decimal n) + 1) ≤ length out.old }
-    ensures piece { Piece out.old at (decimal n ++ (behind ∷ [])) out.new result }
-    ensures end { result ≡ at + (length (decimal n) + 1) }
-{
-    let end = put_decimal(out, at, n);
-    out[end] = behind;
-    end + 1
+// A number in decimal, without leading zeros.
+impl Field for u64 {
+    ghost spelled = { decimal };
+
+    fn put_on(self, page: &mut Page<'_>) {
+        let mut digits = Buffer::new();
+        page.put(digits.format(self).as_bytes());
+    }
 }
 
-// Internal: a text as a field, and the byte behind it.
-pub fn text_field(out: &mut [u8], at: usize, text: &[u8], behind: u8) -> usize
-    requires { at + (length text.now + 1) ≤ length out.old }
-    ensures piece { Piece out.old at (text.now ++ (behind ∷ [])) out.new result }
-    ensures end { result ≡ at + (length text.now + 1) }
-{
-    let end = put_text(out, at, text);
-    out[end] = behind;
-    end + 1
+// Bytes, as they are.
+impl Field for &[u8] {
+    ghost spelled = { λ text. text.now };
+
+    fn put_on(self, page: &mut Page<'_>) {
+        page.put(self);
+    }
+}
+
+// A word.
+impl Field for &str {
+    ghost spelled = { λ word. word.now };
+
+    fn put_on(self, page: &mut Page<'_>) {
+        page.put(self.as_bytes());
+    }
 }

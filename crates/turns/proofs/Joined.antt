@@ -1,4 +1,5 @@
 -- Two lists of events, one after the other: what they come to is what the second comes to after the first.
+use Rattle.std.specs.Prelude.{Ok}
 use Prim.Native.Nat.{ℕ, ◌+◌, ◌*◌, ◌<◌}
 use mathlib.Core.Path.{◌≡◌, refl, sym, ap, ◌∙◌}
 use mathlib.Core.Bool.{true}
@@ -6,7 +7,6 @@ use mathlib.Core.List.{List, [], ◌∷◌, ◌++◌, append_assoc}
 use native.Mathlib.Omega.{arith}
 use lib.ListN.{length, get_or, length-append}
 use Rattle.machine.specs.declared.Counts.{Counts}
-use Rattle.machine.specs.declared.Verdict.TheVariants.{Fine}
 use Rattle.machine.specs.Bytes.{Bytes}
 use Rattle.machine.specs.Image.{State, size_in, state_in}
 use Rattle.machine.specs.Events.{Event, outcome, apply}
@@ -44,12 +44,12 @@ nobody = record { process = 0; code = 0; message = 0 }
 
 -- the image that events leave is accepted again, of the same ring, and has the state after them
 pub record Stands (s₀ : List ℕ) (vs : List Event) (s : List ℕ) : Type 0 where
-  pub fine : image_verdict s ≡ Fine
+  pub fine : image_verdict s ≡ Ok tt
   pub size : size_in s ≡ size_in s₀
   pub long : length s ≡ length s₀
   pub state : state_in s ≡ after (state_in s₀) vs
 
-pub ran_stands : {s₀ : List ℕ} {vs : List Event} {first from : ℕ} {l₀ s l : List ℕ} → image_verdict s₀ ≡ Fine
+pub ran_stands : {s₀ : List ℕ} {vs : List Event} {first from : ℕ} {l₀ s l : List ℕ} → image_verdict s₀ ≡ Ok tt
     → Bytes s₀ → Ran first from s₀ l₀ vs s l
     → ((i : ℕ) → i < length vs → fitting (size_in s₀) (get_or vs i nobody) ≡ true)
     → Stands s₀ vs s
@@ -58,7 +58,7 @@ ran_stands {s₀} {vs} fine small ran fits =
     rw ran.image (search after_all)
 
 -- no events leave image and ledger as they are
-pub ran_none : {first from : ℕ} {s l : List ℕ} → image_verdict s ≡ Fine → Bytes s → Ran first from s l [] s l
+pub ran_none : {first from : ℕ} {s l : List ℕ} → image_verdict s ≡ Ok tt → Bytes s → Ran first from s l [] s l
 unfolding ledger_from
 ran_none {first} {from} {s} {l} fine small =
     record { image = sym (none_left s fine small); records = λ _. splice_none l from }

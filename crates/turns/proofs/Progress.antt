@@ -6,7 +6,7 @@
 -- no part of it carries, since a block has at most 63 events (Packed). No turn tests the image again: it is accepted
 -- after every event (machine/proofs/Runs). A record without room is left out, so nothing need be known of the ledger
 -- before. What events leave, and what others leave that come behind them, is what all of them leave (Joined).
-use Prim.Native.Nat.{ℕ, ◌+◌, ◌-◌, ◌*◌, ◌^◌, ◌≤◌, ◌<◌}
+use Prim.Native.Nat.{ℕ, ◌+◌, ◌*◌, ◌/◌, ◌^◌, ◌≤◌, ◌<◌}
 use mathlib.Core.Path.{◌≡◌, refl, sym, ap, ◌∙◌}
 use mathlib.Core.Bool.{true}
 use mathlib.Core.List.{List, [], ◌∷◌, ◌++◌, append-nil}
@@ -21,7 +21,7 @@ use Rattle.machine.specs.Bytes.{Bytes, splice}
 use Rattle.machine.specs.Lists.{tabulate}
 use Rattle.machine.specs.Image.{State, size_in, state_in}
 use Rattle.machine.specs.Events.{Event, outcome}
-use Rattle.machine.specs.Tape.{event_in}
+use Rattle.machine.specs.Tape.{event_in, events_in}
 use Rattle.machine.specs.Run.{ledger_entry, ledger_from, no_counts, counted, counts_from, after}
 use Rattle.machine.specs.Traffic.{traffic, together, traffic_from}
 use Rattle.machine.specs.Refusals.{codes, event_fits}
@@ -34,26 +34,26 @@ use Rattle.machine.proofs.Tallies.{length_entry}
 use Rattle.machine.proofs.LinkTraffic.{requests_few, departures_few, traffic_one, traffic_joined}
 use Rattle.ledger.specs.Record.{entered_in}
 use Rattle.ledger.proofs.Ways.{has_room}
-use Rattle.turns.specs.Turns.{events_from, Turning, Tallied, Ran}
+use Rattle.turns.specs.Turns.{Turning, Tallied, Ran}
 use Rattle.turns.proofs.Joined.{counts_joined, nobody, Stands, ran_stands, ran_none, ran_joined}
 use Rattle.turns.proofs.Packed.{weight, Packed, packed_none, packed_more, traffic_is, added_is}
 
--- before event k, which stands at `at` and has n events before it: the image s, the ledger l, the word of counts, and
--- the place of the next record
-pub record Progress (s₀ bytes : List ℕ) (start first end : ℕ) (l₀ : List ℕ) (from : ℕ) (s l : List ℕ)
-    (word place k at : ℕ) : Type 0 where
-  pub ready : Turning s₀ bytes start first end from
-  pub n : ℕ
-  pub number : k ≡ first + n
-  pub there : at ≡ start + 8 * n
-  pub within : k ≤ end
+-- the first n events of a list
+abbrev pub events_to : List ℕ → ℕ → List Event
+events_to events n = tabulate (λ k. event_in events (8 * k)) 0 n
+
+-- before event n: the image s, the ledger l, the word of counts, and the place of the next record
+pub record Progress (s₀ events : List ℕ) (first : ℕ) (l₀ : List ℕ) (from : ℕ) (s l : List ℕ) (word place n : ℕ)
+    : Type 0 where
+  pub ready : Turning s₀ events first from
+  pub within : n ≤ length events / 8
   pub small : Bytes s₀
-  pub bytes_small : Bytes bytes
-  pub ran : Ran first from s₀ l₀ (events_from bytes start n) s l
+  pub events_small : Bytes events
+  pub ran : Ran first from s₀ l₀ (events_to events n) s l
   pub long : length l ≡ length l₀
-  pub behind : place ≡ from + 12 * (counts_from no_counts (state_in s₀) (events_from bytes start n)).records
-  pub packed : Packed n word (counts_from no_counts (state_in s₀) (events_from bytes start n))
-      (traffic_from (state_in s₀) (events_from bytes start n))
+  pub behind : place ≡ from + 12 * (counts_from no_counts (state_in s₀) (events_to events n)).records
+  pub packed : Packed n word (counts_from no_counts (state_in s₀) (events_to events n))
+      (traffic_from (state_in s₀) (events_to events n))
 
 -- a ledger keeps its length
 entered_long : (l : List ℕ) (place : ℕ) (entry : List ℕ) → length (entered_in l place entry) ≡ length l
@@ -61,33 +61,29 @@ entered_long l place entry =
     by_test (λ m. length m ≡ length l) (leb (place + length entry) (length l)) (splice l place entry) l
     (λ room. length_splice l place entry (leb-true _ _ room)) (λ _. refl)
 
-pub going_start : {s₀ bytes : List ℕ} {start first end : ℕ} {l₀ : List ℕ} {from : ℕ}
-    → Turning s₀ bytes start first end from → Bytes s₀ → Bytes bytes
-    → Progress s₀ bytes start first end l₀ from s₀ l₀ 0 from first start
+pub going_start : {s₀ events : List ℕ} {first : ℕ} {l₀ : List ℕ} {from : ℕ} → Turning s₀ events first from → Bytes s₀
+    → Bytes events → Progress s₀ events first l₀ from s₀ l₀ 0 from 0
 unfolding tabulate counts_from traffic_from
-going_start ready small small_bytes =
+going_start ready small small_events =
     record {
       ready = ready;
-      n = 0;
-      number = omega arith;
-      there = omega arith;
-      within = ready.order;
+      within = omega arith;
       small = small;
-      bytes_small = small_bytes;
+      events_small = small_events;
       ran = ran_none ready.fine small;
       long = refl;
       behind = omega arith;
       packed = packed_none;
     }
 
-module _ {s₀ bytes : List ℕ} {start first end : ℕ} {l₀ : List ℕ} {from : ℕ} {s l : List ℕ}
-    {word place k at : ℕ} (g : Progress s₀ bytes start first end l₀ from s l word place k at) where
+module _ {s₀ events : List ℕ} {first : ℕ} {l₀ : List ℕ} {from : ℕ} {s l : List ℕ} {word place n : ℕ}
+    (g : Progress s₀ events first l₀ from s l word place n) where
   -- the events so far
   abbrev done : List Event
-  done = events_from bytes start g.n
+  done = events_to events n
 
-  done_long : length done ≡ g.n
-  done_long = length_tabulate (λ j. event_in bytes (start + 8 * j)) 0 g.n
+  done_long : length done ≡ n
+  done_long = length_tabulate (λ j. event_in events (8 * j)) 0 n
 
   -- they fit the ring
   pub stands : Stands s₀ done s
@@ -95,22 +91,22 @@ module _ {s₀ bytes : List ℕ} {start first end : ℕ} {l₀ : List ℕ} {from
   stands =
       ran_stands g.ready.fine g.small g.ran
       (λ i h.
-      let below : i < g.n = omega (arith, done_long) in
-      let there : start + 8 * (0 + i) ≡ start + 8 * i = omega arith in
-      let fits = g.ready.fits i (omega (arith, g.number, g.within)) in
+      let below : i < n = omega (arith, done_long) in
+      let there : 8 * (0 + i) ≡ 8 * i = omega arith in
+      let fits = g.ready.fits i (omega (arith, g.within)) in
       rw (
-        get_d_tabulate (λ j. event_in bytes (start + 8 * j)) 0 g.n i nobody below,
+        get_d_tabulate (λ j. event_in events (8 * j)) 0 n i nobody below,
         there,
-        lt-ltb _ (size_in s₀) (fits_process codes (size_in s₀) bytes (start + 8 * i) fits),
-        lt-ltb _ (2 ^ 32) (number_lt bytes (start + 8 * i + 4) g.bytes_small),
+        lt-ltb _ (size_in s₀) (fits_process codes (size_in s₀) events (8 * i) fits),
+        lt-ltb _ (2 ^ 32) (number_lt events (8 * i + 4) g.events_small),
       ))
 
   -- ---- one event more
 
-  module _ (next : k < end) where
+  module _ (next : n < length events / 8) where
     -- the event, its outcome and traffic, and what it adds to the ledger
     abbrev event : Event
-    event = event_in bytes at
+    event = event_in events (8 * n)
 
     abbrev said : Outcome
     said = outcome (state_in s) event
@@ -119,16 +115,16 @@ module _ {s₀ bytes : List ℕ} {start first end : ℕ} {l₀ : List ℕ} {from
     put_out = traffic (state_in s) event
 
     abbrev entry : List ℕ
-    entry = ledger_entry k event.process said
+    entry = ledger_entry (first + n) event.process said
 
     -- it fits the ring
-    pub event_fitting : event_fits codes (size_in s) bytes at ≡ true
-    event_fitting = rw (stands.size, g.there) (g.ready.fits g.n (omega (arith, g.number)))
+    pub event_fitting : event_fits codes (size_in s) events (8 * n) ≡ true
+    event_fitting = rw stands.size (g.ready.fits n next)
 
-    done_more : events_from bytes start (g.n + 1) ≡ done ++ (event ∷ [])
+    done_more : events_to events (n + 1) ≡ done ++ (event ∷ [])
     done_more =
-        let here : at ≡ start + 8 * (0 + g.n) = omega (arith, g.there) in
-        rw (add-one, here) (tabulate_more (λ j. event_in bytes (start + 8 * j)) 0 g.n)
+        let here : 0 + n ≡ n = omega arith in
+        rw add-one (rw here at (tabulate_more (λ j. event_in events (8 * j)) 0 n))
 
     counts_more : counts_from no_counts (state_in s₀) (done ++ (event ∷ []))
         ≡ counted event.code said (counts_from no_counts (state_in s₀) done)
@@ -142,26 +138,22 @@ module _ {s₀ bytes : List ℕ} {start first end : ℕ} {l₀ : List ℕ} {from
         ∙ ap (together (traffic_from (state_in s₀) done))
         (traffic_one (after (state_in s₀) done) event ∙ ap (λ (st : State). traffic st event) (sym stands.state))
 
-    pub going_on : Progress s₀ bytes start first end l₀ from (image_after s event) (entered_in l place entry)
-        (word + weight event.code said put_out) (place + length entry) (k + 1) (at + 8)
+    pub going_on : Progress s₀ events first l₀ from (image_after s event) (entered_in l place entry)
+        (word + weight event.code said put_out) (place + length entry) (n + 1)
     unfolding after ledger_from counted
     going_on =
-        let one : Ran k place s l (event ∷ []) (image_after s event) (entered_in l place entry) =
+        let one : Ran (first + n) place s l (event ∷ []) (image_after s event) (entered_in l place entry) =
         record { image = refl; records = rw (append-nil entry) (has_room l place entry) } in
         record {
           ready = g.ready;
-          n = g.n + 1;
-          number = omega arith;
-          there = omega arith;
           within = omega arith;
           small = g.small;
-          bytes_small = g.bytes_small;
+          events_small = g.events_small;
           ran =
               rw done_more
-              (ran_joined done (event ∷ []) stands.state g.long (omega (arith, g.number, done_long))
-              g.behind g.ran one);
+              (ran_joined done (event ∷ []) stands.state g.long (omega (arith, done_long)) g.behind g.ran one);
           long = entered_long l place entry ∙ g.long;
-          behind = rw (done_more, counts_more) (omega (arith, g.behind, length_entry k event.process said));
+          behind = rw (done_more, counts_more) (omega (arith, g.behind, length_entry (first + n) event.process said));
           packed =
               rw (done_more, counts_more, traffic_more)
               (packed_more event.code said put_out (requests_few (state_in s) event)
@@ -170,11 +162,11 @@ module _ {s₀ bytes : List ℕ} {start first end : ℕ} {l₀ : List ℕ} {from
 
   -- ---- no event left
 
-  pub gone : end ≤ k
-      → Tallied (state_in s₀) (events_from bytes start (end - first)) word
-      × Ran first from s₀ l₀ (events_from bytes start (end - first)) s l
+  pub gone : length events / 8 ≤ n
+      → Tallied (state_in s₀) (events_in events) word × Ran first from s₀ l₀ (events_in events) s l
+  unfolding events_in
   gone none =
-      let all_done : end - first ≡ g.n = omega (arith, g.number, g.within) in
-      let few : g.n ≤ 63 = omega (arith, g.ready.few) in
+      let all_done : length events / 8 ≡ n = omega (arith, g.within) in
+      let few : n ≤ 63 = omega (arith, g.ready.few) in
       rw all_done
       (record { counts = added_is done (state_in s₀) g.packed few; traffic = traffic_is g.packed few }, g.ran)

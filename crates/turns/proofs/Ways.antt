@@ -1,11 +1,11 @@
 -- One turn of the loop, each way that it goes: idle, moved without a record, or with one. What the lower functions
 -- answered is a variable here, with the value that it is known to be.
-use Prim.Native.Nat.{ℕ, ◌+◌, ◌*◌, ◌%◌, ◌^◌, ◌≤◌, ◌<◌}
+use Prim.Native.Nat.{ℕ, ◌+◌, ◌*◌, ◌/◌, ◌%◌, ◌^◌, ◌≤◌, ◌<◌}
 use mathlib.Core.Path.{◌≡◌, refl, sym, ap, ◌∙◌}
 use mathlib.Core.Bool.{true, and-false}
 use mathlib.Core.List.{List, []}
 use native.Mathlib.Omega.{arith}
-use lib.ListN.{length}
+use lib.ListN.{length, get_or}
 use lib.Dec.{leb}
 use borrow.Author.Tests.{le-leb, lt-leb}
 use mir.Syntax.{w64}
@@ -13,7 +13,8 @@ use mir.Val.{Fits}
 use Rattle.machine.specs.declared.Outcome.{Outcome}
 use Rattle.machine.specs.declared.Outcome.TheVariants.{Idle, Moved, Fill, Take, Sent, Got}
 use Rattle.machine.specs.declared.Traffic.{Traffic}
-use Rattle.machine.specs.Bytes.{bit, splice}
+use Rattle.std.specs.Simd.{first_chunks}
+use Rattle.machine.specs.Bytes.{bit, part, splice}
 use Rattle.machine.specs.Image.{size_in, state_in, image_with}
 use Rattle.machine.specs.Events as rule
 use Rattle.machine.specs.Tape.{event_in}
@@ -22,6 +23,7 @@ use Rattle.machine.specs.Stopped.{is_idle}
 use Rattle.machine.specs.Traffic.{traffic, no_traffic}
 use Rattle.machine.specs.Refusals.{codes}
 use Rattle.machine.proofs.Laws.Bytes.{number_lt}
+use Rattle.machine.proofs.Laws.Chunks.{length_chunks, chunk_is, chunk_event}
 use Rattle.machine.proofs.Soundness.Ways.{choice}
 use Rattle.machine.proofs.Laws.Refusals.{fits_process, fits_code, fits_silent}
 use Rattle.machine.proofs.Tallies.{length_entry}
@@ -82,9 +84,20 @@ module _ (l : List ℕ) (place k process : ℕ) (o : Outcome) {number : ℕ} (is
 
 -- ---- one turn
 
-module _ {s₀ bytes : List ℕ} {start first end : ℕ} {l₀ : List ℕ} {from : ℕ} {s l : List ℕ}
-    {word place k at : ℕ} (g : Progress s₀ bytes start first end l₀ from s l word place k at) (next : k < end)
-    {event : Event} (read : event ≡ event_of (event_in bytes at)) where
+-- as the event is read from the chunk that it is
+module _ {s₀ events : List ℕ} {first : ℕ} {l₀ : List ℕ} {from : ℕ} {s l : List ℕ} {word place n : ℕ}
+    (g : Progress s₀ events first l₀ from s l word place n) {slots : List (List ℕ)}
+    (cut : slots ≡ first_chunks 8 (length events / 8) events) (below : n < length slots)
+    {event : Event} (parsed : event ≡ event_of (event_in (get_or slots n []) 0)) where
+  next : n < length events / 8
+  next = omega (arith, ap length cut, length_chunks 8 (length events / 8) events)
+
+  read : event ≡ event_of (event_in events (8 * n))
+  read =
+      let slot : get_or slots n [] ≡ part events (8 * n) 8 =
+      ap (λ (c : List (List ℕ)). get_or c n []) cut ∙ chunk_is 8 (length events / 8) events n [] next in
+      parsed ∙ ap event_of (ap (λ (b : List ℕ). event_in b 0) slot ∙ chunk_event events (8 * n))
+
   pub may_perform : Performable s event
   unfolding event_in
   may_perform =
@@ -92,10 +105,10 @@ module _ {s₀ bytes : List ℕ} {start first end : ℕ} {l₀ : List ℕ} {from
       rw read
       (record {
         fine = (stands g).fine;
-        below = fits_process codes (size_in s) bytes at fits;
-        code = fits_code codes (size_in s) bytes at fits;
-        message = number_lt bytes (at + 4) g.bytes_small;
-        silent = fits_silent codes (size_in s) bytes at fits;
+        below = fits_process codes (size_in s) events (8 * n) fits;
+        code = fits_code codes (size_in s) events (8 * n) fits;
+        message = number_lt events (8 * n + 4) g.events_small;
+        silent = fits_silent codes (size_in s) events (8 * n) fits;
       })
 
   -- an idle one has no traffic
@@ -112,12 +125,12 @@ module _ {s₀ bytes : List ℕ} {start first end : ℕ} {l₀ : List ℕ} {from
       packed_fits
       (packed_more event.code o (traffic (state_in s) (ruled event)) (requests_few (state_in s) (ruled event))
       (departures_few (state_in s) (ruled event)) g.packed)
-      (omega (arith, g.number, g.ready.few))
+      (omega (arith, next, g.ready.few))
 
   pub turned : {o : Outcome} {s' : List ℕ} → o ≡ rule.outcome (state_in s) (ruled event)
       → s' ≡ image_with s (rule.apply (state_in s) (ruled event)) → (l' : List ℕ) (word' place' : ℕ)
       → word' ≡ word + weight event.code o (traffic (state_in s) (ruled event))
-      → Entered l place (ledger_entry k event.process o) l' place'
-      → Progress s₀ bytes start first end l₀ from s' l' word' place' (k + 1) (at + 8)
+      → Entered l place (ledger_entry (first + n) event.process o) l' place'
+      → Progress s₀ events first l₀ from s' l' word' place' (n + 1)
   turned says wrote _ _ _ more entered =
       rw (more, entered.0, entered.1, wrote, says, read) (going_on g next)

@@ -1,13 +1,10 @@
 -- What must be known before events are performed one after the other, and what they then come to.
-use Rattle.std.specs.Prelude.{ℕ, ◌+◌, ◌-◌, ◌*◌, ◌/◌, ◌%◌, ◌^◌, ◌≤◌, ◌<◌, ◌≡◌, true, List, length}
+use Rattle.std.specs.Prelude.{ℕ, ◌+◌, ◌*◌, ◌/◌, ◌%◌, ◌^◌, ◌≤◌, ◌<◌, ◌≡◌, true, List, length, Ok}
 use Rattle.machine.specs.declared.Counts.{Counts}
 use Rattle.machine.specs.declared.Traffic.{Traffic}
-use Rattle.machine.specs.declared.Verdict.TheVariants.{Fine}
 use Rattle.machine.specs.Bytes.{splice}
-use Rattle.machine.specs.Lists.{tabulate}
 use Rattle.machine.specs.Image.{State, size_in, state_in, image_with}
 use Rattle.machine.specs.Events as rule
-use Rattle.machine.specs.Tape.{event_in}
 use Rattle.machine.specs.Run.{ledger_from, counts_from, after}
 use Rattle.machine.specs.Traffic.{traffic_from}
 use Rattle.machine.specs.Refusals.{codes, image_verdict, event_fits}
@@ -38,18 +35,13 @@ traffic_in word = record { requests = part_of word 1; departures = word / 128 ^ 
 
 -- ---- events one after the other
 
--- the n events that stand 8 bytes apart from `at` on
-abbrev pub events_from : List ℕ → ℕ → ℕ → List rule.Event
-events_from s at n = tabulate (λ k. event_in s (at + 8 * k)) 0 n
-
--- an accepted image, at most 63 events that fit its ring, and a place in a ledger of no more events than a tape has
-pub record Turning (s bytes : List ℕ) (start first end from : ℕ) : Type 0 where
-  pub fine : image_verdict s ≡ Fine
-  pub order : first ≤ end
-  pub few : end ≤ first + 63
-  pub numbers : end ≤ 4128768
-  pub within : start + 8 * (end - first) ≤ length bytes
-  pub fits : (k : ℕ) → k < end - first → event_fits codes (size_in s) bytes (start + 8 * k) ≡ true
+-- an accepted image, at most 63 events that fit its ring, the first of which has this number, and a place in a ledger
+-- of no more events than a tape has
+pub record Turning (s events : List ℕ) (first from : ℕ) : Type 0 where
+  pub fine : image_verdict s ≡ Ok tt
+  pub few : length events / 8 ≤ 63
+  pub numbers : first + length events / 8 ≤ 4128768
+  pub fits : (k : ℕ) → k < length events / 8 → event_fits codes (size_in s) events (8 * k) ≡ true
   pub place : from ≤ 12 * first
 
 -- what events performed from a state on come to, in a word: the counts with any before them, and the traffic

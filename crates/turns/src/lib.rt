@@ -2,16 +2,16 @@
 // and a run go through. Document 01, "The run"; document 02, A.4.
 #![tactic(auto)]
 
-ghost use Rattle.std.specs.Prelude.{◌≡◌, ◌-◌, ◌^◌, ◌<◌};
+ghost use Rattle.std.specs.Prelude.{◌≡◌, ◌^◌, ◌<◌};
 ghost use Rattle.machine.specs.Image.{state_in};
+ghost use Rattle.machine.specs.Tape.{events_in};
 ghost use Rattle.machine.specs.Traffic.{together};
 ghost use Rattle.ledger.specs.Bounds.{NoneAbove};
-ghost use Rattle.turns.specs.Turns.{added, traffic_in, events_from, Turning, Tallied, Ran};
+ghost use Rattle.turns.specs.Turns.{added, traffic_in, Turning, Tallied, Ran};
 
 use event::Event;
 use ledger::enter;
 use machine::{Counts, Traffic};
-use numbers::outcome_number;
 use place::perform;
 
 // A word of counts has nine parts of seven bits, so that sums count whatever comes of at most 63 events. An idle event
@@ -25,7 +25,8 @@ const SENT: u64 = 0x1000_0000;
 
 const GOT: u64 = 0x8_0000_0000;
 
-// Internal: the counts of a word added to those of the events before; a record for each fill, take, sent and got.
+// Internal: the counts of a word added to those of the events before; a record for each fill, take, sent and got. A
+// function, and no `AddAssign`: `Counts` is another crate's, and the word is a number like any other.
 pub fn added_to(counts: Counts, word: u64) -> Counts
     requires { NoneAbove 4294967295 counts }
     ensures { result ≡ added counts word }
@@ -68,45 +69,32 @@ pub fn carried_to(traffic: Traffic, word: u64) -> Traffic
     }
 }
 
-// Internal: the events that stand 8 bytes apart from `start` on, numbered from `first` to before `end`, with their
-// records in the ledger from `from` on, where it has room for all. What they come to is a word of counts, and nothing
-// beside it: to keep the last outcome for a step took 2 instructions of each event.
-pub fn turns(
-    image: &mut [u8],
-    bytes: &[u8],
-    start: usize,
-    first: usize,
-    end: usize,
-    ledger: &mut [u8],
-    from: usize,
-) -> u64
-    requires { Turning image.old bytes.now start first end from }
-    ensures answer { Tallied (state_in image.old)
-        (events_from bytes.now start (end - first)) result }
-    ensures buffers { Ran first from image.old ledger.old
-        (events_from bytes.now start (end - first)) image.new ledger.new }
+// Internal: events of 8 bytes each, numbered from `first` on, with their records in the ledger from `from` on, where it
+// has room for all. What they come to is a word of counts, and nothing beside it: to keep the last outcome for a step
+// took 2 instructions of each event.
+pub fn turns(image: &mut [u8], events: &[u8], first: usize, ledger: &mut [u8], from: usize) -> u64
+    requires { Turning image.old events.now first from }
+    ensures answer { Tallied (state_in image.old) (events_in events.now) result }
+    ensures buffers { Ran first from image.old ledger.old (events_in events.now) image.new ledger.new }
 {
     let mut counts: u64 = 0;
     let mut place = from;
-    let mut k = first;
-    let mut at = start;
-    while k < end {
-        let event = Event::parse(bytes, at);
+    let (slots, _) = events.as_chunks::<8>();
+    for (k, slot) in slots.iter().enumerate() {
+        let event = Event::parse(slot);
         let done = perform(image, event);
         let outcome = done.outcome;
-        let number = outcome_number(outcome);
+        let number = outcome.number();
         if number == 0 {
             counts += 1;
         } else {
             counts += done.counted;
             if 2 <= number {
-                counts += (1 as u64) << (7 * number);
-                enter(ledger, place, k as u32, event, outcome);
+                counts += 1u64 << (7 * number);
+                enter(ledger, place, (first + k) as u32, event, outcome);
                 place += 12;
             }
         }
-        k += 1;
-        at += 8;
     }
     counts
 }

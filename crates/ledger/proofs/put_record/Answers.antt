@@ -4,5 +4,5 @@ use Rattle.ledger.proofs.put_record.Goals as goal
 
 pub returns : goal.returns
 returns c =
-    stored _ _ _ _ _ _ c.requires c.put_number.ensures c.put_four.ensures
-    c.put_number-2.ensures
+    stored _ _ _ _ _ _ c.requires c.write_at.ensures c.put.ensures
+    c.write_at-2.ensures

@@ -1,10 +1,11 @@
--- Lines, counts and the last line, one after the other.
-use Rattle.text.proofs.Laws.{piece_then}
+-- The records' lines, the counts' and the last line, one after the other.
+use native.Mathlib.Omega.{arith}
+use Rattle.text.proofs.Laws.{puts_is, puts_then}
+use Rattle.lines.proofs.Lines.{lines_of_first}
 use Rattle.lines.proofs.put_ran.Goals as goal
 
 pub returns : goal.returns
 returns c =
-    piece_then
-    c.put_lines-lines.ensures.piece
-    (piece_then c.put_counts-last.ensures.piece
-    c.put_end.ensures)
+    puts_then
+    (puts_is (lines_of_first c.args.ledger.now c.args.counts.records (omega arith)) c.put_records.ensures.lines)
+    (puts_then c.put_counts.ensures.line c.put_end.ensures)

@@ -17,11 +17,6 @@ seeded = within 1 2147483646
 abbrev few : ℕ → Bool
 few count = leb count most_events
 
-pub returns-then-not-fits : goal.returns-then-not-fits
-unfolding size_verdict
-returns-then-not-fits c =
-    refused_first _ (test_refuses refusal.Size c.fits.ensures c.if-not-fits.true) refl
-
 pub returns-then-not-seeded : goal.returns-then-not-seeded
 unfolding size_verdict seed_verdict
 returns-then-not-seeded c =

@@ -7,12 +7,11 @@ use mathlib.Core.Bool.{Bool, true, false, not, ◌&&◌, ◌||◌, beq, and-fals
 use lib.Dec.{eqb}
 use borrow.Author.Tests.{eqb-true}
 use Rattle.machine.specs.declared.Pair.{Pair}
-use Rattle.machine.specs.declared.Marked.{Marked}
 use Rattle.machine.specs.declared.Envelope.{Envelope}
 use Rattle.machine.specs.declared.Process.{Process}
 use Rattle.machine.specs.declared.Reaction.{Reaction}
 use Rattle.machine.specs.declared.Outcome.TheVariants.{Got}
-use Rattle.machine.specs.Fields.{Status, full, empty, for, either, count, with_count}
+use Rattle.machine.specs.Fields.{Status, full, empty, for, either, with}
 use Rattle.machine.specs.Stages.{told, filled}
 use Rattle.machine.specs.Events.{idle, ask, pass, mark_for, mark, unmark, clear, positive, wanted, leave}
 use Rattle.machine.specs.Events.{set_markers, forward, ends, relay, wait, end_put}
@@ -52,16 +51,16 @@ less_wanted true false b fewer e = ap not (fewer refl)
 less_wanted false a b fewer e = e
 
 -- one more is marked
-mark_wanted : (m : Pair) (c : Marked) (s t : Status)
-    → for m t || positive (count (with_count c s (suc (count c s))) t) ≡ false
-    → for m t || positive (count c t) ≡ false
+mark_wanted : (m : Pair Bool) (c : Pair ℕ) (s t : Status)
+    → for m t || positive (for (with c s (suc (for c s))) t) ≡ false
+    → for m t || positive (for c t) ≡ false
 mark_wanted m c true true off = absurd (true≢false (or_second m.full true off))
 mark_wanted m c true false off = off
 mark_wanted m c false true off = off
 mark_wanted m c false false off = absurd (true≢false (or_second m.empty true off))
 
 -- the right's wishes are added
-heed_wanted : (m a : Pair) (c : Bool) (t : Status) → for (either m a) t || c ≡ false → for m t || c ≡ false
+heed_wanted : (m a : Pair Bool) (c : Bool) (t : Status) → for (either m a) t || c ≡ false → for m t || c ≡ false
 heed_wanted m a c t off = fewer (for m t) (for a t) c (ap (λ (b : Bool). b || c) (sym (either_for m a t)) ∙ off)
   where
     fewer : (x y z : Bool) → (x || y) || z ≡ false → x || z ≡ false
@@ -151,7 +150,7 @@ module _ (e : Envelope) (p : Process) (fits : Fits e p) where
       waiting_unfilled false = refl
 
   -- the count is at least the own mark
-  module _ (own : (s : Status) → marks_for s p ≤ count e.marked s) where
+  module _ (own : (s : Status) → marks_for s p ≤ for e.marked s) where
     -- stage 5: where the envelope left it is wanted, else the put is still in stage 5
     send_claims : p.stage ≡ 5 → Claims e p (end_put (forward (clear empty start)))
     send_claims here claim outside = go r.leaves refl
@@ -236,7 +235,7 @@ module _ (e : Envelope) (p : Process) where
   request_claims s = choice (Claims e p) (for p.link s) _ _ (unmoved e p) (unmoved e p)
 
 -- any event, by its code
-pub react_claims : (e : Envelope) (p : Process) → Fits e p → ((s : Status) → marks_for s p ≤ count e.marked s)
+pub react_claims : (e : Envelope) (p : Process) → Fits e p → ((s : Status) → marks_for s p ≤ for e.marked s)
     → (code m : ℕ) → Claims e p (react code m e p)
 react_claims e p fits own code m =
     every_code (Claims e p) code m e p (start_put_claims e p m) (start_get_claims e p) (work_claims e p)

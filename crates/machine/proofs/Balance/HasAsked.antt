@@ -60,7 +60,7 @@ ends_asked o r t = turn_asked 0 t r.process refl
 -- ---- without the envelope: ask and pass
 
 -- what is wanted, as the asked bits and the stage tell, was asked for
-module _ (t : Status) (wants : Pair → ℕ → Bool) where
+module _ (t : Status) (wants : Pair Bool → ℕ → Bool) where
   abbrev Meets : Reaction → Type 0
   Meets r = wants r.process.asked r.process.stage ≡ true → for r.process.itself t ≡ true
 
@@ -76,10 +76,10 @@ module _ (t : Status) (wants : Pair → ℕ → Bool) where
   pass_meets = pass_keeps Meets ask_meets
 
 -- two wants: what the right asked for, and what the stage waits for
-abbrev right_asked : Status → Pair → ℕ → Bool
+abbrev right_asked : Status → Pair Bool → ℕ → Bool
 right_asked t asked stage = for asked t
 
-abbrev stage_waits : Status → Pair → ℕ → Bool
+abbrev stage_waits : Status → Pair Bool → ℕ → Bool
 stage_waits t asked stage = eqb stage (waits_for t)
 
 -- asking for s meets a wish for s

@@ -15,7 +15,7 @@ use Rattle.machine.specs.declared.Outcome.{Outcome}
 use Rattle.machine.specs.declared.Reaction.{Reaction}
 use Rattle.machine.specs.Bytes.{bit}
 use Rattle.machine.specs.Lists.{all}
-use Rattle.machine.specs.Fields.{Status, count}
+use Rattle.machine.specs.Fields.{Status, for}
 use Rattle.machine.specs.Image.{State}
 use Rattle.machine.specs.Stages.{sending, filled, receiving}
 use Rattle.machine.specs.Events.{Event, react, process_at, place, reaction, outcome, apply}
@@ -83,7 +83,7 @@ module _ (st : State) (t : Totals) (inv : Invariant st t) (v : Event)
   fits_here = fits_at st inv.fits v.process below
 
   own_mark : (s : Status)
-      → marks_for s (process_at st.processes v.process) ≤ count st.envelope.marked s
+      → marks_for s (process_at st.processes v.process) ≤ for st.envelope.marked s
   own_mark = mark_counted st inv.few inv.fits.rest v.process below
 
   -- the invariant after it

@@ -34,7 +34,7 @@ use Rattle.machine.proofs.Balance.Claimed.{Claims}
 -- ---- requests that come to a neighbour
 
 -- it keeps those that it had
-more_requests : (s : Status) (a : Pair) (p : Process) → holds_request s p ≡ true → holds_request s (requested a p)
+more_requests : (s : Status) (a : Pair Bool) (p : Process) → holds_request s p ≡ true → holds_request s (requested a p)
     ≡ true
 more_requests s a p has =
     rw (either_for p.link a s) (grow (for p.asked s) (for p.link s) (for a s) has)
@@ -45,7 +45,7 @@ more_requests s a p has =
     grow false false z e = absurd (false≢true e)
 
 -- and has those that came
-new_request : (s : Status) (a : Pair) (p : Process) → for a s ≡ true → holds_request s (requested a p) ≡ true
+new_request : (s : Status) (a : Pair Bool) (p : Process) → for a s ≡ true → holds_request s (requested a p) ≡ true
 new_request s a p asks = rw (either_for p.link a s, asks, or-true (for p.link s)) (or-true (for p.asked s))
 
 -- who awaits s while the envelope may come awaited it before, and it doesn't come

@@ -9,7 +9,7 @@ use Rattle.machine.specs.declared.Envelope.{Envelope}
 use Rattle.machine.specs.declared.Process.{Process}
 use Rattle.machine.specs.declared.Reaction.{Reaction}
 use Rattle.machine.specs.declared.Outcome.TheVariants.{Got}
-use Rattle.machine.specs.Fields.{Status, full, empty, for, count}
+use Rattle.machine.specs.Fields.{Status, full, empty, for}
 use Rattle.machine.specs.Stages.{plain, told}
 use Rattle.machine.specs.Events.{ask, pass, mark, clear, wanted, leave, set_markers, forward, ends, relay, wait}
 use Rattle.machine.specs.Events.{end_put, start_put, start_get, work, signal, receive, take_request, put, react}
@@ -115,7 +115,7 @@ module _ (e : Envelope) (p : Process) (fits : Fits e p) where
       may_restless false = refl
 
   -- the count is at least the own mark
-  module _ (own : (s : Status) → marks_for s p ≤ count e.marked s) where
+  module _ (own : (s : Status) → marks_for s p ≤ for e.marked s) where
     -- stage 5: where the envelope left nothing is claimed, else it stays in stage 5
     send_rests : p.stage ≡ 5 → Rested (end_put (forward (clear empty start)))
     unfolding end_put ends
@@ -195,7 +195,7 @@ module _ (e : Envelope) (p : Process) (before : AtRest e p) where
   request_rests s = news_rest (for p.link s) (take_request s e p) (request_news s e p) (λ off. rw off before)
 
 -- any event, by its code
-pub react_rests : (e : Envelope) (p : Process) → Fits e p → ((s : Status) → marks_for s p ≤ count e.marked s)
+pub react_rests : (e : Envelope) (p : Process) → Fits e p → ((s : Status) → marks_for s p ≤ for e.marked s)
     → (code m : ℕ) → AtRest e p
     → AtRest (react code m e p).envelope (react code m e p).process
 react_rests e p fits own code m before =

@@ -13,7 +13,7 @@ use Rattle.machine.specs.declared.Process.{Process}
 use Rattle.machine.specs.Bytes.{bit}
 use Rattle.machine.specs.Lists.{sum}
 use Rattle.machine.specs.Ring.{left}
-use Rattle.machine.specs.Fields.{Status, for, count, blank}
+use Rattle.machine.specs.Fields.{Status, for, blank}
 use Rattle.machine.specs.Image.{State}
 use Rattle.machine.specs.Stages.{filled}
 use Rattle.machine.specs.Sound.{places}
@@ -43,10 +43,10 @@ not_positive zero off = refl
 not_positive (suc n) off = absurd (true≢false off)
 
 -- a status that nobody wants is counted nowhere
-uncounted : (e : Envelope) → wanted e ≡ false → count e.marked e.full ≡ 0
+uncounted : (e : Envelope) → wanted e ≡ false → for e.marked e.full ≡ 0
 unfolding wanted
 uncounted e off =
-    let n = count e.marked e.full in
+    let n = for e.marked e.full in
     not_positive n (or_second (for e.marker e.full) (positive n) off)
 
 -- where just one flag is set, at most one process has a full envelope, and none if it is empty

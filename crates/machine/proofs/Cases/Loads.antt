@@ -1,12 +1,12 @@
 -- Loads, computed: the first events of three seeds and the check of a block, as a calculation by document 02 apart from
 -- this repository gives them; each refusal, what comes first of two, and what becomes of the output. The longest load
 -- is shown by its length alone.
+use Rattle.std.specs.Prelude.{Ok}
 use Prim.Native.Nat.{ℕ, ◌-◌, ◌*◌}
 use mathlib.Core.Path.{◌≡◌, refl}
 use mathlib.Core.Bool.{true}
 use mathlib.Core.List.{List, [], ◌∷◌, ◌++◌}
 use lib.ListN.{length, replicate}
-use Rattle.machine.specs.declared.Verdict.TheVariants.{Fine}
 use Rattle.machine.specs.Events.{Event}
 use Rattle.machine.specs.Tape.{block_check, tape_of}
 use Rattle.machine.specs.Refusals.{size_verdict, seed_verdict, count_verdict, output_verdict}
@@ -92,7 +92,7 @@ every_load = refl
 
 -- ---- the longest
 
-module _ (n seed : ℕ) (output : List ℕ) (size : size_verdict n ≡ Fine) (from : seed_verdict seed ≡ Fine) where
+module _ (n seed : ℕ) (output : List ℕ) (size : size_verdict n ≡ Ok tt) (from : seed_verdict seed ≡ Ok tt) where
   pub longest_load : length output ≡ 512 * 65536 → load_answer n seed 4128768 output ≡ done (512 * 65536 ∷ [])
   unfolding load_answer load_verdict count_verdict output_verdict
   longest_load e = rw (size, from, length_load_tape n seed 4128768, e)

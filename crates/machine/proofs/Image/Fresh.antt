@@ -1,4 +1,5 @@
 -- The fresh ring: its bytes as code writes them, and that it is sound.
+use Rattle.std.specs.Prelude.{Ok}
 use Prim.Native.Nat.{ℕ, zero, suc, ◌+◌, ◌*◌, ◌≤◌, ◌<◌}
 use mathlib.Core.Path.{◌≡◌, refl, sym, ap, ◌∙◌}
 use mathlib.Core.Bool.{Bool, true, false}
@@ -10,7 +11,6 @@ use lib.Dec.{eqb, lit<}
 use lib.Count.{ones_in}
 use borrow.Author.Tests.{eqb-true}
 use Rattle.machine.specs.declared.Process.{Process}
-use Rattle.machine.specs.declared.Verdict.TheVariants.{Fine}
 use Rattle.machine.specs.Bytes.{bit, bytes, splice}
 use Rattle.machine.specs.Lists.{all, sum}
 use Rattle.machine.specs.Ring.{image_length, record_at}
@@ -168,7 +168,7 @@ fresh_in_range n k =
 
 -- ---- what the fresh ring call leaves is the fresh state, written, and sound
 
-module _ (n k : ℕ) (s : List ℕ) (fine : fresh_verdict n k s ≡ Fine) where
+module _ (n k : ℕ) (s : List ℕ) (fine : fresh_verdict n k s ≡ Ok tt) where
   pub fresh_written : fresh_image n k s ≡ image_with s (fresh_state n k)
   unfolding fresh_image
   fresh_written = rw fine
@@ -179,7 +179,7 @@ module _ (n k : ℕ) (s : List ℕ) (fine : fresh_verdict n k s ≡ Fine) where
   pub fresh_state_lem : state_in (fresh_image n k s) ≡ fresh_state n k
   fresh_state_lem = ap state_in fresh_written ∙ read_state s (fresh_state n k) (fresh_in_range n k)
 
-  pub fresh_accepted : image_verdict (fresh_image n k s) ≡ Fine
+  pub fresh_accepted : image_verdict (fresh_image n k s) ≡ Ok tt
   fresh_accepted =
       let facts = fresh_fine n k s fine in
       let st = fresh_state n k in

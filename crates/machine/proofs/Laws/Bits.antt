@@ -34,11 +34,11 @@ is_bit zero h = refl
 is_bit (suc zero) h = refl
 is_bit (suc (suc x)) h = absurd (omega arith)
 
-pub pair_le : (q : Pair) → pair_bits q ≤ 3
+pub pair_le : (q : Pair Bool) → pair_bits q ≤ 3
 pair_le q = omega (arith, bit_le q.full, bit_le q.empty)
 
 -- two bits of a byte that holds a pair there
-pub pair_is : (q : Pair) (byte k : ℕ) → byte / 2 ^ k % 2 ≡ bit q.full → byte / 2 ^ (k + 1) % 2 ≡ bit q.empty
+pub pair_is : (q : Pair Bool) (byte k : ℕ) → byte / 2 ^ k % 2 ≡ bit q.full → byte / 2 ^ (k + 1) % 2 ≡ bit q.empty
     → pair_of byte k ≡ q
 pair_is q byte k e f = simp (bit_is q.full (byte / 2 ^ k % 2) e, bit_is q.empty (byte / 2 ^ (k + 1) % 2) f)
 

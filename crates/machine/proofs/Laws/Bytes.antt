@@ -1,17 +1,17 @@
 -- Laws of bytes, wider numbers and splices.
-use Prim.Native.Nat.{ℕ, zero, suc, ◌+◌, ◌*◌, ◌/◌, ◌%◌, ◌^◌, ◌≤◌, ◌<◌}
+use Prim.Native.Nat.{ℕ, zero, suc, ◌+◌, ◌*◌, ◌/◌, ◌^◌, ◌≤◌, ◌<◌}
 use mathlib.Core.Path.{◌≡◌, refl, sym, ap, ◌∙◌}
 use mathlib.Core.Bool.{Bool, true, false, ◌&&◌, and-true}
 use mathlib.Core.List.{List, [], ◌∷◌, ◌++◌, append_assoc}
 use mathlib.Core.Logic.{◌⊎◌, inl, inr}
 use native.Mathlib.Omega.{arith}
-use native.Mathlib.Numerals.{add-one, towards_suc}
-use lib.ListN.{length, get_or, set, take, drop, length-append, length-take, length-drop}
+use native.Mathlib.Numerals.{add-one}
+use lib.ListN.{length, get_or, take, drop, length-append, length-take, length-drop}
 use lib.ListN.{get_or-eq_default, drop_of_length-le}
-use lib.Seq.{sets-eq, length-take-le, drop-cons, take-append-add}
+use lib.Seq.{length-take-le, drop-cons, take-append-add}
 use lib.Seq.{drop-append-add, drop-append_seam, take-append_seam, drop-drop, take-nil}
 use lib.Dec.{eqb, ltb}
-use lib.Pow.{shr-shr, shr_lt}
+use lib.Pow.{shr_lt}
 use borrow.Author.Tests.{ltb-true, ltb-false, eqb-true, eqb-false, eq-eqb, ne_eqb}
 use Rattle.machine.specs.Bytes.{Bytes, part, little_endian_of, number, bytes, all_zero, zeros, splice}
 
@@ -106,15 +106,6 @@ unfolding bytes
 length_bytes zero n = refl
 length_bytes (suc width) n = ap suc (length_bytes width (n / 256))
 
--- as code writes it
-pub bytes_4 : (n : ℕ) → n < 2 ^ 32 → bytes 4 n ≡ n % 256 ∷ n / 256 % 256 ∷ n / 65536 % 256 ∷ n / 16777216 ∷ []
-unfolding bytes
-bytes_4 n h =
-    let two : n / 256 / 256 ≡ n / 65536 = shr-shr n 8 8 in
-    let three : n / 65536 / 256 ≡ n / 16777216 = shr-shr n 16 8 in
-    let top : n / 16777216 % 256 ≡ n / 16777216 = omega arith in
-    rw (two, three, top)
-
 -- at every width
 pub little_endian_bytes : (width n : ℕ) → n < 2 ^ (8 * width) → little_endian_of (bytes width n) ≡ n
 unfolding little_endian_of bytes
@@ -199,11 +190,3 @@ splice_next s at a b h =
     )
     (append_assoc (take at s) a (b ++ drop (at + length (a ++ b)) s)
     ∙ ap (λ (l : List ℕ). take at s ++ l) (sym (append_assoc a b (drop (at + length (a ++ b)) s))))
-
--- stores one after the other, as code makes them, are a splice
-pub stores_4 : (s : List ℕ) (at a b c d : ℕ) → at + 4 ≤ length s
-    → set (set (set (set s at a) (at + 1) b) (at + 2) c) (at + 3) d ≡ splice s at (a ∷ b ∷ c ∷ d ∷ [])
-unfolding splice
-stores_4 s at a b c d fits =
-    let vs = a ∷ b ∷ c ∷ d ∷ [] in
-    simp towards_suc (simp towards_suc at (sets-eq vs s at fits ∙ append_assoc (take at s) vs (drop (at + 4) s)))

@@ -1,5 +1,6 @@
 -- The first refusal of a row of tests: the row is fine exactly when each test is, and a loop that counts up may leave
 -- out those that were.
+use Rattle.std.specs.Prelude.{Err, Ok}
 use Prim.Native.Nat.{ℕ, zero, suc, ◌+◌, ◌-◌, ◌≤◌, ◌<◌}
 use mathlib.Core.Path.{◌≡◌, refl, ap, ap₂, ◌∙◌}
 use mathlib.Core.Bool.{Bool, true, false}
@@ -7,13 +8,12 @@ use native.Mathlib.Omega.{arith}
 use lib.Dec.{eqb}
 use borrow.Author.Tests.{eqb-true, eqb-false}
 use Rattle.machine.specs.declared.Refusal.{Refusal}
-use Rattle.machine.specs.declared.Verdict.{Verdict}
-use Rattle.machine.specs.declared.Verdict.TheVariants.{Fine, Refused}
+use Rattle.machine.specs.Verdict.{Verdict}
 use Rattle.machine.specs.Refusals.{or_else, first}
 use Rattle.machine.proofs.Laws.Refusals.{first_fine, second_fine}
 
 -- a row is fine where each test is
-pub first_all_fine : (f : ℕ → Verdict) (i n : ℕ) → ((k : ℕ) → i ≤ k → k < i + n → f k ≡ Fine) → first f i n ≡ Fine
+pub first_all_fine : (f : ℕ → Verdict) (i n : ℕ) → ((k : ℕ) → i ≤ k → k < i + n → f k ≡ Ok tt) → first f i n ≡ Ok tt
 unfolding first
 first_all_fine f i zero fine = refl
 first_all_fine f i (suc n) fine =
@@ -21,13 +21,13 @@ first_all_fine f i (suc n) fine =
     (first_all_fine f (i + 1) n (λ k low high. fine k (omega arith) (omega arith)))
 
 -- and so is each one of a row that is
-pub first_fine_at : (f : ℕ → Verdict) (i n : ℕ) → first f i n ≡ Fine → (k : ℕ) → i ≤ k → k < i + n → f k ≡ Fine
+pub first_fine_at : (f : ℕ → Verdict) (i n : ℕ) → first f i n ≡ Ok tt → (k : ℕ) → i ≤ k → k < i + n → f k ≡ Ok tt
 unfolding first
 first_fine_at f i zero e k low high = absurd (omega arith)
 first_fine_at f i (suc n) e k low high =
     go (eqb k i) refl (first_fine_at f (i + 1) n (second_fine (f i) (first f (i + 1) n) e) k)
   where
-    go : (t : Bool) → eqb k i ≡ t → (i + 1 ≤ k → k < i + 1 + n → f k ≡ Fine) → f k ≡ Fine
+    go : (t : Bool) → eqb k i ≡ t → (i + 1 ≤ k → k < i + 1 + n → f k ≡ Ok tt) → f k ≡ Ok tt
     go true q later = ap f (eqb-true k i q) ∙ first_fine (f i) (first f (i + 1) n) e
     go false q later = let ne = eqb-false k i q in later (omega arith) (omega arith)
 
@@ -40,15 +40,15 @@ first_same f g i (suc n) same =
     (first_same f g (i + 1) n (λ k low high. same k (omega arith) (omega arith)))
 
 -- the tests before k are fine, and k is refused
-pub first_refused : (f : ℕ → Verdict) (i n k : ℕ) (r : Refusal) → ((j : ℕ) → i ≤ j → j < k → f j ≡ Fine)
-    → i ≤ k → k < i + n → f k ≡ Refused r → first f i n ≡ Refused r
+pub first_refused : (f : ℕ → Verdict) (i n k : ℕ) (r : Refusal) → ((j : ℕ) → i ≤ j → j < k → f j ≡ Ok tt)
+    → i ≤ k → k < i + n → f k ≡ Err r → first f i n ≡ Err r
 unfolding first
 first_refused f i zero k r fine low high e = absurd (omega arith)
 first_refused f i (suc n) k r fine low high e =
     go (eqb k i) refl (first_refused f (i + 1) n k r (λ j a b. fine j (omega arith) b))
   where
-    go : (t : Bool) → eqb k i ≡ t → (i + 1 ≤ k → k < i + 1 + n → f k ≡ Refused r → first f (i + 1) n ≡ Refused r)
-        → first f i (suc n) ≡ Refused r
+    go : (t : Bool) → eqb k i ≡ t → (i + 1 ≤ k → k < i + 1 + n → f k ≡ Err r → first f (i + 1) n ≡ Err r)
+        → first f i (suc n) ≡ Err r
     go true q later = rw (← eqb-true k i q, e)
     go false q later =
         let ne = eqb-false k i q in
@@ -60,14 +60,14 @@ module _ (f : ℕ → Verdict) (i n : ℕ) (h : i < n) where
   next : n - i ≡ suc (n - (i + 1))
   next = omega arith
 
-  pub first_on : f i ≡ Fine → first f i (n - i) ≡ first f (i + 1) (n - (i + 1))
+  pub first_on : f i ≡ Ok tt → first f i (n - i) ≡ first f (i + 1) (n - (i + 1))
   unfolding first
   first_on e = rw (next, e)
 
-  pub first_found : {r : Refusal} → f i ≡ Refused r → first f i (n - i) ≡ Refused r
+  pub first_found : {r : Refusal} → f i ≡ Err r → first f i (n - i) ≡ Err r
   unfolding first
   first_found e = rw (next, e)
 
-pub first_end : (f : ℕ → Verdict) (i n : ℕ) → n ≤ i → first f i (n - i) ≡ Fine
+pub first_end : (f : ℕ → Verdict) (i n : ℕ) → n ≤ i → first f i (n - i) ≡ Ok tt
 unfolding first
 first_end f i n h = let e : n - i ≡ zero = omega arith in rw e

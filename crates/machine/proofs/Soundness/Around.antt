@@ -48,7 +48,7 @@ changed_at_lem l k f h j = go (eqb j k) refl
     go false e = get_or-set_other l k j (f (process_at l k)) blank (eqb-false j k e)
 
 -- requests at one process alone
-requested_if : (b : Bool) (a : Pair) (p : Process) → cond b (requested a p) p ≡ requested (cond b a none) p
+requested_if : (b : Bool) (a : Pair Bool) (p : Process) → cond b (requested a p) p ≡ requested (cond b a none) p
 requested_if true a p = refl
 requested_if false a p = sym (no_request p)
 

@@ -8,6 +8,7 @@
 -- envelope comes back at the right. Others that need the envelope would have it, and there is one place only, so a
 -- change of status touches nobody else. A status's count is the sum of its marks, since a set of at most 64 has as many
 -- ones as members (Sums).
+use Rattle.std.specs.Prelude.{Ok}
 use Prim.Native.Nat.{ℕ, ◌+◌, ◌^◌, ◌≤◌, ◌<◌}
 use mathlib.Core.Path.{◌≡◌, refl, sym, ap, ap₂, ◌∙◌}
 use mathlib.Core.Bool.{Bool, true}
@@ -19,7 +20,6 @@ use lib.Dec.{ltb}
 use borrow.Author.Tests.{eq-eqb, lt-ltb, ltb-true}
 use Rattle.machine.specs.declared.Process.{Process}
 use Rattle.machine.specs.declared.Refusal.TheVariants as refusal
-use Rattle.machine.specs.declared.Verdict.TheVariants.{Fine}
 use Rattle.machine.specs.Ring.{image_length}
 use Rattle.machine.specs.Fields.{Status, full, empty, blank}
 use Rattle.machine.specs.Image.{State, size_in, state_in, image_with, header_bytes, record_bytes}
@@ -183,12 +183,12 @@ pub state_kept : (s : List ℕ) (v : Event) → Bytes s → v.process < size_in 
 state_kept s v small below message = read_state s (apply (state_in s) v) (range_after s v small below message)
 
 -- the buffer keeps its length
-pub length_kept : (s : List ℕ) (v : Event) → image_verdict s ≡ Fine → length (image_after s v) ≡ length s
+pub length_kept : (s : List ℕ) (v : Event) → image_verdict s ≡ Ok tt → length (image_after s v) ≡ length s
 length_kept s v fine =
     length_written s (apply (state_in s) v)
     (omega (arith, length_applied (state_in s) v, length_state s, (image_fine s fine).room))
 
-module _ (s : List ℕ) (v : Event) (small : Bytes s) (fine : image_verdict s ≡ Fine) where
+module _ (s : List ℕ) (v : Event) (small : Bytes s) (fine : image_verdict s ≡ Ok tt) where
   -- at most 64 processes, as before
   few_after : length (apply (state_in s) v).processes ≤ 64
   few_after = omega (arith, length_applied (state_in s) v, length_state s, (image_fine s fine).size.most)
@@ -211,7 +211,7 @@ module _ (s : List ℕ) (v : Event) (small : Bytes s) (fine : image_verdict s �
       (λ t. omega (arith, count_le (apply (state_in s) v) few_after facts.rest t)) facts.processes
 
   -- and it is accepted
-  pub sound_kept : v.process < size_in s → v.message < 2 ^ 32 → image_verdict (image_after s v) ≡ Fine
+  pub sound_kept : v.process < size_in s → v.message < 2 ^ 32 → image_verdict (image_after s v) ≡ Ok tt
   sound_kept below message =
       let image = image_fine s fine in
       let size : SizeFits (size_in (image_after s v)) = rw (size_kept s v) image.size in

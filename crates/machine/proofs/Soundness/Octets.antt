@@ -14,7 +14,7 @@ use Rattle.machine.specs.declared.Process.{Process}
 use Rattle.machine.specs.Bytes.{bit, bytes, Bytes}
 use Rattle.machine.specs.Lists.{all}
 use Rattle.machine.specs.Ring.{image_length}
-use Rattle.machine.specs.Fields.{Status, full, empty, count}
+use Rattle.machine.specs.Fields.{Status, full, empty, for}
 use Rattle.machine.specs.Image.{State, pair_bits, flag_bits, request_bits, header_bytes, process_bytes, record_bytes}
 use Rattle.machine.specs.Image.{image_with}
 use Rattle.machine.specs.Stages.{last_stage}
@@ -103,7 +103,7 @@ records_octets (p ∷ ps) fits =
 
 -- the whole, in a buffer of bytes
 pub written_bytes : (s : List ℕ) (st : State) → Bytes s → length st.processes < 256
-    → ((t : Status) → count st.envelope.marked t < 256)
+    → ((t : Status) → for st.envelope.marked t < 256)
     → all process_fits st.processes ≡ true
     → Bytes (image_with s st)
 written_bytes s st small size counts fits =

@@ -6,13 +6,12 @@ use mathlib.Core.Path.{◌≡◌, refl, sym, ap, subst, ◌∙◌}
 use mathlib.Core.Bool.{Bool, true, false, not, cond, ◌||◌, false≢true}
 use native.Mathlib.Omega.{arith}
 use Rattle.machine.specs.declared.Pair.{Pair}
-use Rattle.machine.specs.declared.Marked.{Marked}
 use Rattle.machine.specs.declared.Envelope.{Envelope}
 use Rattle.machine.specs.declared.Process.{Process}
 use Rattle.machine.specs.declared.Reaction.{Reaction}
 use Rattle.machine.specs.declared.Outcome.TheVariants.{Moved}
 use Rattle.machine.specs.Bytes.{bit}
-use Rattle.machine.specs.Fields.{Status, for, with, count, with_count, with_news, with_mark, with_marked}
+use Rattle.machine.specs.Fields.{Status, for, with, with_news, with_mark, with_marked}
 use Rattle.machine.specs.Stages.{markable}
 use Rattle.machine.specs.Events.{becomes, changed, ask, pass, mark_for, unmark, clear, wanted, leave}
 use Rattle.machine.specs.Events.{set_markers}
@@ -28,23 +27,23 @@ pred_less zero h = absurd (omega arith)
 pred_less (suc n) h = refl
 
 -- each count changes by just the mark; a and b are the mark and the count that a put began with
-module _ (c : Marked) (m : Pair) (a b : ℕ) where
-  mark_tally : (s t : Status) → for m s ≡ false → count c t + a ≡ b + bit (for m t)
-      → count (with_count c s (suc (count c s))) t + a ≡ b + bit (for (with m s true) t)
+module _ (c : Pair ℕ) (m : Pair Bool) (a b : ℕ) where
+  mark_tally : (s t : Status) → for m s ≡ false → for c t + a ≡ b + bit (for m t)
+      → for (with c s (suc (for c s))) t + a ≡ b + bit (for (with m s true) t)
   mark_tally true true off e = omega (arith, ap bit off, e)
   mark_tally true false off e = e
   mark_tally false true off e = e
   mark_tally false false off e = omega (arith, ap bit off, e)
 
-  unmark_tally : (s t : Status) → for m s ≡ true → 1 ≤ count c s → count c t + a ≡ b + bit (for m t)
-      → count (with_count c s (pred (count c s))) t + a ≡ b + bit (for (with m s false) t)
+  unmark_tally : (s t : Status) → for m s ≡ true → 1 ≤ for c s → for c t + a ≡ b + bit (for m t)
+      → for (with c s (pred (for c s))) t + a ≡ b + bit (for (with m s false) t)
   unmark_tally true true on h e = omega (arith, ap bit on, e, pred_less c.full h)
   unmark_tally true false on h e = e
   unmark_tally false true on h e = e
   unmark_tally false false on h e = omega (arith, ap bit on, e, pred_less c.empty h)
 
 -- and the marks fit the stage
-module _ (m : Pair) (stage : ℕ) where
+module _ (m : Pair Bool) (stage : ℕ) where
   mark_stays : (s t : Status) → markable s stage ≡ true → not (for m t) || markable t stage ≡ true
       → not (for (with m s true) t) || markable t stage ≡ true
   mark_stays true true may e = may
@@ -63,7 +62,7 @@ module _ (m : Pair) (stage : ℕ) where
 
 -- by the parts of a reaction that a rule of soundness reads; e and p are what the put began with
 pub record OwedOf (e : Envelope) (p : Process) (status : Status) (message stage note : ℕ) (have arriving leaves : Bool)
-    (marked : Marked) (marks : Pair) : Type 0 where
+    (marked : Pair ℕ) (marks : Pair Bool) : Type 0 where
   pub status_same : status ≡ e.full
   pub message_same : message ≡ e.message
   pub stage_same : stage ≡ p.stage
@@ -72,7 +71,7 @@ pub record OwedOf (e : Envelope) (p : Process) (status : Status) (message stage 
   pub have_left : have ≡ cond leaves false p.have
   pub leaving : leaves ≡ true → p.have ≡ true
   pub marks_fit : (s : Status) → not (for marks s) || markable s stage ≡ true
-  pub tally : (s : Status) → count marked s + marks_for s p ≡ count e.marked s + bit (for marks s)
+  pub tally : (s : Status) → for marked s + marks_for s p ≡ for e.marked s + bit (for marks s)
 
 -- the same by the reaction
 abbrev pub Owed : Envelope → Process → Reaction → Type 0
@@ -85,7 +84,7 @@ Owed e p r =
 -- a mark for s that isn't there yet is set, and counted
 abbrev marking : Status → Reaction → Reaction
 marking s r =
-    changed r (with_marked (with_count r.envelope.marked s (suc (count r.envelope.marked s))) r.envelope)
+    changed r (with_marked (with r.envelope.marked s (suc (for r.envelope.marked s))) r.envelope)
     (with_mark (with r.process.mark s true) r.process)
 
 mark_counts : (s : Status) (r : Reaction) → for r.process.mark s ≡ false → mark_for s r ≡ marking s r
@@ -166,13 +165,13 @@ module _ (e : Envelope) (p : Process) where
       by_test (Owed e p) (wanted (set_markers r).envelope) _ _ (λ _. leave_owed (set_markers r) had o) (λ _. o)
 
   -- the count is at least the process's own mark, so there is one to take away
-  module _ (own : (s : Status) → marks_for s p ≤ count e.marked s) where
+  module _ (own : (s : Status) → marks_for s p ≤ for e.marked s) where
     unmark_owed : (s : Status) (r : Reaction) → Owed e p r → Owed e p (unmark s r)
     unfolding unmark
     unmark_owed s r o =
         by_test (Owed e p) (for r.process.mark s) _ _
         (λ on.
-        let some : 1 ≤ count r.envelope.marked s = omega (arith, ap bit on, o.tally s, own s) in
+        let some : 1 ≤ for r.envelope.marked s = omega (arith, ap bit on, o.tally s, own s) in
         record {
           status_same = o.status_same;
           message_same = o.message_same;
@@ -215,7 +214,7 @@ forward_mark r =
     (λ _. refl)
 
 -- a clear for s takes the mark for s away
-cleared_off : (s : Status) (m : Pair) → for (with m s false) s ≡ false
+cleared_off : (s : Status) (m : Pair Bool) → for (with m s false) s ≡ false
 cleared_off true m = refl
 cleared_off false m = refl
 

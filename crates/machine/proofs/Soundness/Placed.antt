@@ -87,7 +87,7 @@ module _ (l : List Process) (i : ℕ) (r : Reaction) (h : i < length l) where
   right_in = simp (length_change, length-set) (mod-lt _ (omega arith))
 
   -- what reads neither link nor arriving flag
-  pub all_placed : (f : Process → Bool) → ((a : Pair) (p : Process) → f (requested a p) ≡ f p)
+  pub all_placed : (f : Process → Bool) → ((a : Pair Bool) (p : Process) → f (requested a p) ≡ f p)
       → ((b : Bool) (p : Process) → f (arrived b p) ≡ f p)
       → all f own_set ≡ true
       → all f (place l i r) ≡ true
@@ -97,7 +97,7 @@ module _ (l : List Process) (i : ℕ) (r : Reaction) (h : i < length l) where
       (all_change f own_set _ _ left_in (no_link r.asks) fits)
 
   -- and what is added up
-  pub sum_placed : (w : Process → ℕ) → ((a : Pair) (p : Process) → w (requested a p) ≡ w p)
+  pub sum_placed : (w : Process → ℕ) → ((a : Pair Bool) (p : Process) → w (requested a p) ≡ w p)
       → ((b : Bool) (p : Process) → w (arrived b p) ≡ w p)
       → sum w (place l i r) + w (process_at l i) ≡ sum w l + w r.process
   unfolding place

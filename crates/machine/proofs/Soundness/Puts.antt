@@ -9,7 +9,7 @@ use Rattle.machine.specs.declared.Envelope.{Envelope}
 use Rattle.machine.specs.declared.Process.{Process}
 use Rattle.machine.specs.declared.Outcome.TheVariants.{Sent, Got}
 use Rattle.machine.specs.declared.Reaction.{Reaction}
-use Rattle.machine.specs.Fields.{Status, full, empty, for, count}
+use Rattle.machine.specs.Fields.{Status, full, empty, for}
 use Rattle.machine.specs.Stages.{plain, markable}
 use Rattle.machine.specs.Events.{ask, pass, mark, clear, forward, ends, relay, wait, end_put, put}
 use Rattle.machine.proofs.Laws.Lists.{same_bool}
@@ -64,13 +64,14 @@ module _ (e : Envelope) (p : Process) (fits : Fits e p) where
   -- where a stage clears for s and has no marks for the other status, no mark is left
   unmarked : (s t : Status) → markable (not s) p.stage ≡ false → Owed e p (forward (clear s start))
       → for (forward (clear s start)).process.mark t ≡ false
-  unmarked true true other o = ap (λ (m : Pair). m.full) (forward_mark (clear true start)) ∙ clear_mark true start
+  unmarked true true other o = ap (λ (m : Pair Bool). m.full) (forward_mark (clear true start)) ∙ clear_mark true start
   unmarked true false other o = no_mark _ _ (ap (markable false) o.stage_same ∙ other) (o.marks_fit false)
   unmarked false true other o = no_mark _ _ (ap (markable true) o.stage_same ∙ other) (o.marks_fit true)
-  unmarked false false other o = ap (λ (m : Pair). m.empty) (forward_mark (clear false start)) ∙ clear_mark false start
+  unmarked false false other o =
+      ap (λ (m : Pair Bool). m.empty) (forward_mark (clear false start)) ∙ clear_mark false start
 
   -- the count is at least the own mark
-  module _ (own : (s : Status) → marks_for s p ≤ count e.marked s) where
+  module _ (own : (s : Status) → marks_for s p ≤ for e.marked s) where
     -- stage 5 ends if the envelope leaves, and else stays
     put_5 : p.stage ≡ 5 → Settled e p (end_put (forward (clear empty start)))
     unfolding end_put

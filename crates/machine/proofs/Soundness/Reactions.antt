@@ -10,7 +10,7 @@ use borrow.Author.Tests.{eqb-true}
 use Rattle.machine.specs.declared.Envelope.{Envelope}
 use Rattle.machine.specs.declared.Process.{Process}
 use Rattle.machine.specs.Bytes.{bit}
-use Rattle.machine.specs.Fields.{Status, for, count, with_stage}
+use Rattle.machine.specs.Fields.{Status, for, with_stage}
 use Rattle.machine.specs.Stages.{last_stage, told}
 use Rattle.machine.specs.Sound.{note_fits, stage_fits}
 use Rattle.machine.specs.Events.{idle, start_put, start_get, work, signal, receive, take_request, react}
@@ -161,7 +161,7 @@ module _ (e : Envelope) (p : Process) (fits : Fits e p) where
   -- ---- any event, by its code
 
   -- a code above 7 is not possible
-  pub react_settled : (code message : ℕ) → flags_set p ≤ 1 → ((s : Status) → marks_for s p ≤ count e.marked s)
+  pub react_settled : (code message : ℕ) → flags_set p ≤ 1 → ((s : Status) → marks_for s p ≤ for e.marked s)
       → Settled e p (react code message e p)
   react_settled code message alone own =
       every_code (Settled e p) code message e p (start_put_lem message) start_get_lem work_settled signal_settled

@@ -14,7 +14,7 @@ use Rattle.machine.specs.declared.Process.{Process}
 use Rattle.machine.specs.declared.Outcome.{Outcome}
 use Rattle.machine.specs.declared.Reaction.{Reaction}
 use Rattle.machine.specs.Bytes.{bit}
-use Rattle.machine.specs.Fields.{Status, full, empty, for, count, holding, process_of}
+use Rattle.machine.specs.Fields.{Status, full, empty, for, holding, process_of}
 use Rattle.machine.specs.Stages.{last_stage, plain, told, noted, with_empty, with_full, markable}
 use Rattle.machine.specs.Sound.{stage_fits}
 use Rattle.machine.specs.Events.{becomes, mark, ends}
@@ -25,7 +25,7 @@ use Rattle.machine.proofs.Soundness.Owed.{Owed, begun, begun_owed, mark_owed}
 -- ---- what fits at one process
 
 -- by the parts of an envelope and a record that a rule of soundness reads
-pub record FitsOf (status : Status) (message stage : ℕ) (have : Bool) (marks : Pair) (note : ℕ) : Type 0 where
+pub record FitsOf (status : Status) (message stage : ℕ) (have : Bool) (marks : Pair Bool) (note : ℕ) : Type 0 where
   pub envelope : status || eqb message 0 ≡ true
   pub range : leb stage last_stage ≡ true
   pub marked : (s : Status) → not (for marks s) || markable s stage ≡ true
@@ -42,7 +42,7 @@ pub record Settled (e : Envelope) (p : Process) (r : Reaction) : Type 0 where
   pub flags : flags_set r.process + bit r.leaves ≡ flags_set p
   pub status : (p.have ≡ true) ⊎ (r.envelope.full ≡ e.full)
   pub tally : (s : Status)
-      → count r.envelope.marked s + marks_for s p ≡ count e.marked s + marks_for s r.process
+      → for r.envelope.marked s + marks_for s p ≡ for e.marked s + marks_for s r.process
 
 -- ---- laws of tests
 
@@ -138,7 +138,7 @@ abbrev pub follows : ℕ → ℕ → Bool
 follows k j = (not (markable full k) || markable full j) && (not (markable empty k) || markable empty j)
 
 -- so marks that fit k fit j
-pub marks_follow : (k j : ℕ) (m : Pair) → follows k j ≡ true
+pub marks_follow : (k j : ℕ) (m : Pair Bool) → follows k j ≡ true
     → ((s : Status) → not (for m s) || markable s k ≡ true)
     → (s : Status) → not (for m s) || markable s j ≡ true
 marks_follow k j m f h s = go s (for m s) (h s)
@@ -171,7 +171,7 @@ module _ (e : Envelope) (p : Process) (fits : Fits e p) where
       mark_owed e p (not e.full) (begun e p) may (begun_owed e p fits.marked)
 
   -- an event that touches no flag of the envelope's place and no mark
-  pub still : {o : Outcome} {status : Status} {message stage : ℕ} {news : Bool} {asked link : Pair} {note : ℕ}
+  pub still : {o : Outcome} {status : Status} {message stage : ℕ} {news : Bool} {asked link : Pair Bool} {note : ℕ}
       → FitsOf status message stage p.have p.mark note
       → (p.have ≡ true) ⊎ (status ≡ e.full)
       → Settled e p (becomes o (holding status message e)

@@ -1,6 +1,7 @@
 -- Sums over the records of a ring. The have and arriving flags that are set, and the marks for a status, are sums of
 -- what each record has: so a record that is replaced changes them by just its own part, and an accepted image's counts
 -- are the sums of its marks.
+use Rattle.std.specs.Prelude.{Ok}
 use Prim.Native.Nat.{ℕ, zero, suc, ◌+◌, ◌*◌, ◌/◌, ◌%◌, ◌≤◌, ◌<◌}
 use mathlib.Core.Path.{◌≡◌, refl, sym, ap, ap₂, ◌∙◌, subst}
 use mathlib.Core.Bool.{true, false}
@@ -13,10 +14,9 @@ use lib.Count.{ones_in}
 use lib.Dec.{lit≤}
 use borrow.Author.Tests.{eqb-true}
 use Rattle.machine.specs.declared.Process.{Process}
-use Rattle.machine.specs.declared.Verdict.TheVariants.{Fine}
 use Rattle.machine.specs.Bytes.{bit}
 use Rattle.machine.specs.Lists.{sum}
-use Rattle.machine.specs.Fields.{Status, for, count, blank}
+use Rattle.machine.specs.Fields.{Status, for, blank}
 use Rattle.machine.specs.Image.{State, size_in, state_in}
 use Rattle.machine.specs.Sound.{marked_set}
 use Rattle.machine.specs.Events.{process_at}
@@ -126,33 +126,33 @@ marked_sum s l h = ones_sum s 64 l h
 
 module _ (st : State) (few : length st.processes ≤ 64) (rest : RestFacts st) where
   -- the count for s is the sum of the marks for s
-  pub count_sum : (s : Status) → count st.envelope.marked s ≡ sum (marks_for s) st.processes
+  pub count_sum : (s : Status) → for st.envelope.marked s ≡ sum (marks_for s) st.processes
   count_sum true = sym (eqb-true _ _ rest.counts_full) ∙ marked_sum true st.processes few
   count_sum false = sym (eqb-true _ _ rest.counts_empty) ∙ marked_sum false st.processes few
 
   -- and at most 64
-  pub count_le : (s : Status) → count st.envelope.marked s ≤ 64
+  pub count_le : (s : Status) → for st.envelope.marked s ≤ 64
   count_le s =
       omega (arith, count_sum s, sum_le (marks_for s) (λ p. bit_le (for p.mark s)) st.processes, few)
 
   -- the count for s is at least the mark of any one process
   pub mark_counted : (i : ℕ) → i < length st.processes → (s : Status)
-      → marks_for s (process_at st.processes i) ≤ count st.envelope.marked s
+      → marks_for s (process_at st.processes i) ≤ for st.envelope.marked s
   mark_counted i h s = omega (arith, count_sum s, part_le (marks_for s) st.processes i h)
 
 -- ---- the counts of an accepted image
 
 -- each count is at most 64
-pub marked_small : (s : List ℕ) → image_verdict s ≡ Fine → (t : Status) → count (state_in s).envelope.marked t ≤ 64
+pub marked_small : (s : List ℕ) → image_verdict s ≡ Ok tt → (t : Status) → for (state_in s).envelope.marked t ≤ 64
 marked_small s fine t =
     let image = image_fine s fine in
     let few : length (state_in s).processes ≤ 64 = omega (arith, length_state s, image.size.most) in
     count_le (state_in s) few (sound_facts s image.fits).rest t
 
 -- the count for t is at least 1 where a process is marked for t
-pub marked_counted : (s : List ℕ) → image_verdict s ≡ Fine → (i : ℕ) → i < size_in s → (t : Status)
+pub marked_counted : (s : List ℕ) → image_verdict s ≡ Ok tt → (i : ℕ) → i < size_in s → (t : Status)
     → for (process_at (state_in s).processes i).mark t ≡ true
-    → 1 ≤ count (state_in s).envelope.marked t
+    → 1 ≤ for (state_in s).envelope.marked t
 marked_counted s fine i h t marked =
     let image = image_fine s fine in
     let few : length (state_in s).processes ≤ 64 = omega (arith, length_state s, image.size.most) in

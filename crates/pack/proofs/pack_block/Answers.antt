@@ -1,8 +1,8 @@
--- The list's events are laid into the slots, and the block is sealed round them.
-use Rattle.pack.proofs.Packed.{block_packed}
+-- The events are laid into the slots, and the block is sealed round them.
+use native.Mathlib.Omega.{arith}
+use Rattle.pack.proofs.Packed.{block_filled}
 use Rattle.pack.proofs.pack_block.Goals as goal
 
 pub returns : goal.returns
 returns c =
-    block_packed c.args.list.now c.args.b c.args.tape.now c.requires.2 c.width_in-used.ensures.0
-    c.copy.ensures c.seal_block.ensures
+    block_filled c.args.block.now c.args.events.now c.args.number (omega arith) c.put.ensures c.seal_block.ensures

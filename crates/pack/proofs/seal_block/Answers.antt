@@ -1,8 +1,9 @@
--- The three stores and the events that were there are the rule's block, and the check is taken of the others.
+-- The four stores and the events that were there are the rule's block, and the check is taken of the others.
 use Rattle.pack.proofs.Packed.{block_sealed}
 use Rattle.pack.proofs.seal_block.Goals as goal
 
 pub returns : goal.returns
 returns c =
-    block_sealed c.args.tape.now c.args.b c.args.used c.requires.0 c.requires.1 c.requires.2
-    c.put_four.ensures c.clear.ensures c.check_of-check.ensures c.put_number.ensures
+    let whole = rw c.unwrap.ensures at c.as_array.ensures.cases in
+    block_sealed c.args.block.now c.args.number c.args.used c.requires.2 c.requires.0 c.write_at.ensures
+    c.write_at-2.ensures c.clear.ensures whole.same c.check_of-check.ensures c.write_at-3.ensures

@@ -1,23 +1,40 @@
--- After b blocks the start of the list is the events of the first b blocks.
-use mathlib.Core.Path.{◌≡◌, refl}
+-- After j blocks the start of the list is the events of the first j blocks, and `at` stands behind them.
+use Prim.Native.Nat.{ℕ, ◌+◌, ◌-◌, ◌*◌, ◌<◌}
+use mathlib.Core.Path.{◌≡◌, ap, ◌∙◌}
+use mathlib.Core.List.{List}
 use native.Mathlib.Omega.{arith}
+use lib.ListN.{length-take}
+use Rattle.machine.specs.Bytes.{splice}
 use Rattle.pack.specs.Pack.{taken_from}
-use Rattle.pack.proofs.Rows.{joined_none, taken_more}
+use Rattle.pack.proofs.Rows.{joined_none, block_at, taken_more}
 use Rattle.pack.proofs.unpack.Goals as goal
 
-pub loop-b-init : goal.loop-b-init
-loop-b-init c =
-    (omega arith, refl, joined_none c.args.list.now (taken_from c.args.tape.now c.args.total))
+pub loop-block-init : goal.loop-block-init
+loop-block-init c =
+    record { at = omega arith; taken = joined_none c.args.list.now (taken_from c.args.tape.now c.args.total) }
 
-pub loop-b-preserved : goal.loop-b-preserved
-loop-b-preserved c = (
-  omega arith,
-  omega arith,
-  taken_more c.args.tape.now c.args.list.now c.args.total c.loop-b.b (omega arith) (omega arith)
-      c.width_in-used.ensures.0 c.loop-b.invariant.2 c.copy.ensures,
-)
+pub loop-block-preserved : goal.loop-block-preserved
+loop-block-preserved c =
+    let tape : List ℕ = c.args.tape.now in
+    let whole : List (List ℕ) = c.as_chunks.result.0.now in
+    let j : ℕ = c.loop-block.block-index in
+    let count = length-take {A = List ℕ} c.args.blocks whole in
+    let below : j < c.args.blocks = omega arith in
+    let full : c.loop-block.at ≡ 504 * j = omega arith in
+    let width : ℕ = 8 + c.min-used.result - 8 in
+    let used : c.min-used.result ≡ width = omega arith in
+    let events =
+    block_at tape c.args.blocks _ j width below (omega arith) (omega arith) c.as_chunks.ensures.front in
+    let put = rw full at c.put.ensures in
+    record {
+      at = omega arith;
+      taken =
+          taken_more tape c.args.list.now c.args.total j {used = width} (omega arith) (omega arith) (omega arith)
+          c.loop-block.invariant.taken (put ∙ ap (splice c.loop-block.list (504 * j)) events);
+    }
 
 pub returns : goal.returns
 returns c =
-    let all : c.loop-b.b ≡ c.args.blocks = omega arith in
-    rw (← all) c.loop-b.invariant.2
+    let count = length-take {A = List ℕ} c.args.blocks c.as_chunks.result.0.now in
+    let all : c.loop-block.block-index ≡ c.args.blocks = omega (arith, c.as_chunks.ensures.front_len) in
+    rw (← all) c.loop-block.invariant.taken

@@ -1,6 +1,8 @@
 -- The copy is an accepted image of the same state, so its records are the image's.
 use mathlib.Core.Path.{ap, ◌∙◌}
 use native.Mathlib.Omega.{arith}
+use Prim.Native.Nat.{ℕ, ◌+◌, ◌*◌}
+use lib.ListN.{length-take}
 use Rattle.machine.specs.declared.Counts.{Counts}
 use Rattle.machine.specs.Image.{State}
 use Rattle.machine.proofs.Laws.Refusals.{image_fine}
@@ -9,29 +11,22 @@ use Rattle.replay.specs.Playable.{first_events}
 use Rattle.replay.proofs.Spare.{spare_state, spare_playable}
 use Rattle.replay.proofs.measure.Goals as goal
 
-pub bounds-image-0 : goal.bounds-image-0
-bounds-image-0 c =
-    omega (arith, (image_fine c.args.image.now c.requires.image_fine).header)
+pub put-requires : goal.put-requires
+put-requires c =
+    let image = image_fine c.args.image.now c.requires.image_fine in
+    omega (arith, c.from.ensures, image.size.most, length-take {A = ℕ} (16 + 8 * c.from.result) c.args.image.now)
 
-pub overflow_mul-bytes : goal.overflow_mul-bytes
-overflow_mul-bytes c = omega (arith, c.wide.ensures.1)
-
-pub overflow_add-bytes : goal.overflow_add-bytes
-overflow_add-bytes c = omega (arith, c.wide.ensures.1)
-
-pub copy-requires : goal.copy-requires
-copy-requires c =
-    let image = image_fine c.args.image.now c.requires.image_fine in (
-      omega (arith, c.wide.ensures.0, image.room),
-      omega (arith, c.wide.ensures.0, image.size.most),
-    )
+pub slice_bounds-put-end-2 : goal.slice_bounds-put-end-2
+slice_bounds-put-end-2 c =
+    let image = image_fine c.args.image.now c.requires.image_fine in
+    omega (arith, c.from.ensures, image.room, length-take {A = ℕ} (16 + 8 * c.from.result) c.args.image.now)
 
 pub replay-played-requires : goal.replay-played-requires
 replay-played-requires c =
     let image = image_fine c.args.image.now c.requires.image_fine in
     spare_playable c.args.image.now c.requires.image_fine
     (λ k. omega (arith, c.type_inv.image k))
-    _ (omega (arith, image.size.most)) c.wide.ensures.0 c.copy.ensures c.requires
+    _ (omega (arith, image.size.most)) c.from.ensures c.put.ensures c.requires
 
 pub returns : goal.returns
 returns c =
@@ -40,4 +35,4 @@ returns c =
     ∙ ap (λ (st : State). records_from st (first_events c.args.tape.now c.args.events))
     (spare_state c.args.image.now c.requires.image_fine
     (λ k. omega (arith, c.type_inv.image k))
-    _ (omega (arith, image.size.most)) c.wide.ensures.0 c.copy.ensures)
+    _ (omega (arith, image.size.most)) c.from.ensures c.put.ensures)

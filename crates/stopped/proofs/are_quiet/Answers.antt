@@ -1,22 +1,23 @@
 -- After i turns nothing waits exactly when the rule says so of the first i processes.
-use mathlib.Core.Path.{◌≡◌}
+use Prim.Native.Nat.{ℕ, ◌+◌, ◌*◌, ◌<◌}
+use mathlib.Core.Path.{ap, ◌∙◌}
+use mathlib.Core.List.{List}
 use native.Mathlib.Omega.{arith}
-use Rattle.machine.specs.Bytes.{Bytes}
+use Rattle.machine.specs.Bytes.{Bytes, number}
+use Rattle.machine.proofs.Laws.Chunks.{chunk_in, chunk_number}
 use Rattle.stopped.proofs.Words.{quiet_none, quiet_more}
 use Rattle.stopped.proofs.are_quiet.Goals as goal
 
-pub loop-i-init : goal.loop-i-init
-loop-i-init c = (omega arith, quiet_none c.args.image.now)
+pub loop-record-init : goal.loop-record-init
+loop-record-init c = quiet_none c.args.image.now
 
-pub loop-i-preserved : goal.loop-i-preserved
-loop-i-preserved c =
-    let small : Bytes c.args.image.now =
-    λ k. omega (arith, c.type_inv.image k) in
-    let next = quiet_more c.args.image.now small c.args.n c.loop-i.i c.loop-i.any c.loop-i.stages c.requires.2
-    (omega arith) c.loop-i.invariant.1 c.eight_at-word.ensures in
-    (omega arith, next)
-
-pub returns : goal.returns
-returns c =
-    let all : c.loop-i.i ≡ c.args.n = omega arith in
-    rw (← all) c.loop-i.invariant.1
+pub loop-record-preserved : goal.loop-record-preserved
+loop-record-preserved c =
+    let s = c.args.image.now in
+    let i = c.loop-record.record-index in
+    let small : Bytes s = λ k. omega (arith, c.type_inv.image k) in
+    let below : i < c.args.n = omega (arith, c.as_chunks.ensures.front_len) in
+    quiet_more s small c.args.n i c.loop-record.any c.loop-record.stages c.requires.2 below c.loop-record.invariant
+    (c.read_at-word.ensures
+    ∙ ap (λ (l : List ℕ). number l 0 8) (chunk_in s 16 _ c.as_chunks.ensures.front i c.loop-record-test.true)
+    ∙ chunk_number s (16 + 8 * i))

@@ -1,5 +1,6 @@
 -- Each turn performs, counts and enters the next event, so the image, the ledger and the word of counts are always what
 -- the events so far come to.
+use Prim.Native.Nat.{◌+◌}
 use native.Mathlib.Omega.{arith}
 use borrow.Author.Rules.{rules}
 use Rattle.machine.specs.Image.{state_in}
@@ -20,11 +21,11 @@ use Rattle.turns.proofs.turns.Goals as goal
 pub loop-k-init : goal.loop-k-init
 loop-k-init c =
     going_start c.requires (λ i. (c.type_inv.image i).fits)
-    (λ i. (c.type_inv.bytes i).fits)
+    (λ i. (c.type_inv.events i).fits)
 
 pub perform-done-requires : goal.perform-done-requires
 perform-done-requires c =
-    may_perform c.loop-k.invariant c.loop-k-test.true c.parse-event.ensures
+    may_perform c.loop-k.invariant c.as_chunks.ensures.front c.loop-k-test.true c.parse-event.ensures
 
 pub overflow_add-counts : goal.overflow_add-counts
 unfolding in_parts
@@ -43,43 +44,46 @@ overflow_shl-counts c =
 -- the word has room for what an event adds
 pub overflow_add-counts-then-number-ge2 : goal.overflow_add-counts-then-number-ge2
 overflow_add-counts-then-number-ge2 c =
-    let fits = room c.loop-k.invariant c.loop-k-test.true c.parse-event.ensures c.perform-done.result.outcome in
+    let fits =
+    room c.loop-k.invariant c.as_chunks.ensures.front c.loop-k-test.true c.parse-event.ensures
+    c.perform-done.result.outcome in
     let more =
-    word_more c.loop-k.counts c.parse-event.result.code c.perform-done.result.outcome _ c.outcome_number-number.ensures
+    word_more c.loop-k.counts c.parse-event.result.code c.perform-done.result.outcome _ c.number-number.ensures
     c.perform-done.ensures.answer.counts c.if-number-ge2.true in
     search rules
 
 pub overflow_add-counts-else-number-eq0 : goal.overflow_add-counts-else-number-eq0
 overflow_add-counts-else-number-eq0 c =
     let fits =
-    room c.loop-k.invariant c.loop-k-test.true
-    c.parse-event.ensures c.perform-done.result.outcome in
+    room c.loop-k.invariant c.as_chunks.ensures.front c.loop-k-test.true c.parse-event.ensures
+    c.perform-done.result.outcome in
     search rules
 
 pub enter-requires : goal.enter-requires
 enter-requires c =
-    let may = may_perform c.loop-k.invariant c.loop-k-test.true c.parse-event.ensures in
+    let may = may_perform c.loop-k.invariant c.as_chunks.ensures.front c.loop-k-test.true c.parse-event.ensures in
     let image = image_fine _ may.fine in
     search rules
 
 pub loop-k-preserved : goal.loop-k-preserved
 loop-k-preserved c =
     let next =
-    turned c.loop-k.invariant c.loop-k-test.true c.parse-event.ensures c.perform-done.ensures.answer.said
+    turned c.loop-k.invariant c.as_chunks.ensures.front c.loop-k-test.true c.parse-event.ensures
+    c.perform-done.ensures.answer.said
     c.perform-done.ensures.buffer in
     let u = traffic (state_in c.loop-k.image) (ruled c.parse-event.result) in
-    let still = idle_still c.loop-k.invariant c.loop-k-test.true c.parse-event.ensures
-    c.perform-done.ensures.answer.said c.outcome_number-number.ensures in
+    let still = idle_still c.loop-k.invariant c.as_chunks.ensures.front c.loop-k-test.true c.parse-event.ensures
+    c.perform-done.ensures.answer.said c.number-number.ensures in
     let idle = word_idle c.loop-k.counts c.parse-event.result.code c.perform-done.result.outcome u
-    c.outcome_number-number.ensures in
+    c.number-number.ensures in
     let moved = word_moved c.loop-k.counts c.parse-event.result.code c.perform-done.result.outcome u
-    c.outcome_number-number.ensures c.perform-done.ensures.answer.counts in
+    c.number-number.ensures c.perform-done.ensures.answer.counts in
     let more = word_more c.loop-k.counts c.parse-event.result.code c.perform-done.result.outcome u
-    c.outcome_number-number.ensures c.perform-done.ensures.answer.counts in
-    let none = none_entered c.loop-k.ledger c.loop-k.place c.loop-k.k c.parse-event.result.process
-    c.perform-done.result.outcome c.outcome_number-number.ensures in
-    let one = record_long c.loop-k.ledger c.loop-k.place c.loop-k.k c.parse-event.result.process
-    c.perform-done.result.outcome c.outcome_number-number.ensures in
+    c.number-number.ensures c.perform-done.ensures.answer.counts in
+    let none = none_entered c.loop-k.ledger c.loop-k.place (c.args.first + c.loop-k.k) c.parse-event.result.process
+    c.perform-done.result.outcome c.number-number.ensures in
+    let one = record_long c.loop-k.ledger c.loop-k.place (c.args.first + c.loop-k.k) c.parse-event.result.process
+    c.perform-done.result.outcome c.number-number.ensures in
     elim c.if-number-eq0.branch [
       | then-number-eq0 w ↦
           rw (w.ledger-is, w.counts-is, w.place-is)
@@ -95,4 +99,6 @@ loop-k-preserved c =
     ]
 
 pub returns : goal.returns
-returns c = let done = gone c.loop-k.invariant c.loop-k-test.false in record { answer = done.0; buffers = done.1 }
+returns c =
+    let done = gone c.loop-k.invariant (omega (arith, c.as_chunks.ensures.front_len)) in
+    record { answer = done.0; buffers = done.1 }

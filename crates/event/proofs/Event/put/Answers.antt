@@ -6,5 +6,5 @@ use Rattle.event.proofs.Event.put.Goals as goal
 
 pub returns : goal.returns
 returns c =
-    event_written c.args.bytes.now c.args.at (ruled c.args.self) (omega arith) c.put_four.ensures
-    c.put_number.ensures
+    event_written c.args.bytes.now c.args.at (ruled c.args.self) (omega arith) c.put.ensures
+    c.write_at.ensures

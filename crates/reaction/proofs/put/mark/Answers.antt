@@ -1,21 +1,20 @@
 -- A mark that stands adds no bit and no count; a new one is counted, and its count has room.
-use Prim.Native.Nat.{◌-◌}
-use borrow.Author.Rules.{rules}
 use native.Mathlib.Omega.{arith}
-use lib.Bits.{and_le_l}
 use Rattle.machine.specs.Fields.{empty}
 use Rattle.reaction.proofs.Marks.{mark_made}
 use Rattle.reaction.proofs.put.mark.Goals as goal
 
-pub overflow_mul-new : goal.overflow_mul-new
-overflow_mul-new c =
-    omega (arith, and_le_l c.pair_for.result (3 - c.marks.result), c.pair_for.ensures.1)
+pub with_more-requires : goal.with_more-requires
+with_more-requires c = omega (arith, c.args.step.ready.room empty)
 
-pub with_more-t-requires : goal.with_more-t-requires
-with_more-t-requires c = (
-  omega (arith, and_le_l c.pair_for.result (3 - c.marks.result), c.pair_for.ensures.1),
-  omega (arith, c.requires.1.room empty),
-)
+pub invariant_of-result : goal.invariant_of-result
+invariant_of-result c =
+    let made =
+    mark_made c.args.step c.is_full.ensures c.only.ensures c.marks.ensures c.not.ensures c.bitand-new.ensures
+    c.with.ensures c.with_more.ensures.0 c.with_more.ensures.1 in
+    record { tidy = made.fits.own; header_tidy = made.fits.header }
 
 pub returns : goal.returns
-returns c = search (rules, mark_made)
+returns c =
+    mark_made c.args.step c.is_full.ensures c.only.ensures c.marks.ensures c.not.ensures c.bitand-new.ensures
+    c.with.ensures c.with_more.ensures.0 c.with_more.ensures.1

@@ -1,24 +1,17 @@
 -- With a short result slice the verdict of what is given decides alone; else the bytes filled, or the refusal, are
 -- told.
-use native.Mathlib.Omega.{arith}
-use Rattle.ring_tools.proofs.Ways.{read_short, filled_refused, filled_done}
+use Rattle.result_slice.proofs.Told.{told_left}
+use Rattle.ring_tools.proofs.Ways.{read_short}
 use Rattle.ring_tools.proofs.ring_read.ring_read.Goals as goal
-
-pub returns-then-is_short : goal.returns-then-is_short
-returns-then-is_short c =
-    let done = read_short c.args.res.now (omega arith) c.args.n c.args.tape.now c.args.output.now
-    c.read_verdict.ensures c.short.ensures in
-    record { number = done.0; buffer = done.1.0; told = done.1.1 }
 
 pub returns-in_default : goal.returns-in_default
 returns-in_default c =
-    let done = filled_refused c.args.res.now (omega arith) c.args.output.now c.read-answer.ensures.buffer
-    c.read-answer.ensures.answer c.in_default.is c.refusal.ensures c.refused.ensures.number c.refused.ensures.told
-    in
+    let done = read_short c.args.res.now c.in_default.ensures.cases c.args.n c.args.tape.now c.args.output.now
+    c.read_verdict.ensures c.short.ensures in
     record { number = done.0; buffer = done.1.0; told = done.1.1 }
 
 pub returns : goal.returns
 returns c =
-    let done = filled_done c.args.res.now (omega arith) c.args.output.now c.read-answer.ensures.buffer
-    c.read-answer.ensures.answer _ c.in-Done.is c.tell_one.ensures in
+    let done = told_left c.args.res.now c.in-Some.ensures.cases c.args.output.now c.read.ensures.buffer
+    c.read.ensures.answer c.reply.ensures.number c.reply.ensures.told c.reply.ensures.room in
     record { number = done.0; buffer = done.1.0; told = done.1.1 }

@@ -6,5 +6,5 @@ use Rattle.record.proofs.header.Header.put.Goals as goal
 
 pub returns : goal.returns
 returns c =
-    stores_both c.args.image.now 0 8 _ _ (omega arith) (rw length_bytes) c.put_word.ensures
-    c.put_word-2.ensures
+    stores_both c.args.image.now 0 8 _ _ (omega arith) (rw length_bytes) c.write_at.ensures
+    c.write_at-2.ensures

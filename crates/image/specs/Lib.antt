@@ -1,2 +1,0 @@
--- What this crate's contracts cite beside the rules: document 01's numbers and values of its answer.
-pub mod Fresh

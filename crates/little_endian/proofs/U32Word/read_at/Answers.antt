@@ -1,0 +1,12 @@
+-- The bytes cut out are those of the place, and the library joins them as the rule does.
+use Prim.Native.Nat.{◌+◌, ◌-◌}
+use mathlib.Core.Path.{◌∙◌}
+use native.Mathlib.Omega.{arith}
+use Rattle.little_endian.proofs.Laws.{number_cut, joined_4}
+use Rattle.little_endian.proofs.U32Word.read_at.Goals as goal
+
+pub returns : goal.returns
+returns c =
+    let cut = rw c.unwrap.ensures at c.as_array.ensures.cases in
+    c.from_le_bytes.ensures ∙ joined_4 c.unwrap.result.now
+    ∙ number_cut c.args.bytes.now c.args.at 4 (c.args.at + 4 - c.args.at) (omega arith) cut.same

@@ -1,2 +1,0 @@
--- What this crate's contract cites beside the rules.
-pub mod Run
