@@ -203,9 +203,10 @@ impl Event {
     // How many codes there are.
     pub const CODES: u8 = 8;
 
-    // Internal: whether an event for n processes stands in a slot. Its bytes are tested as one number: beside the
-    // process nothing counts where code and zeros are 0, since any message may follow, and else all does. Four
-    // instructions less for an event of a run than field by field.
+    // Internal: whether an event for n processes and so many codes stands in a slot: two numbers, since the theorems
+    // are of any number of codes. Its bytes are tested as one number: beside the process nothing counts where code
+    // and zeros are 0, since any message may follow, and else all does. Four instructions less for an event of a run
+    // than field by field.
     pub fn fits(slot: &[u8; 8], n: usize, codes: u8) -> bool
         ensures { result ≡ event_fits codes n slot.now 0 }
     {
@@ -226,8 +227,8 @@ impl Event {
         }
     }
 
-    // Internal: the event's eight bytes, written from `at` on: into a slot that the caller cuts out, 1 instruction more
-    // of the 46 of a drawn event; handed back as `[u8; 8]`, 3.
+    // Internal: the event's eight bytes, written from `at` on; its process, an index here, is a byte there. Into a
+    // slot that the caller cuts out, 1 instruction more of the 46 of a drawn event; handed back as `[u8; 8]`, 3.
     pub fn put(self, bytes: &mut [u8], at: usize)
         requires { (self.process < 256) × (at + 8 ≤ length bytes.old) }
         ensures { bytes.new ≡ splice bytes.old at (event_bytes (ruled self)) }
@@ -269,6 +270,7 @@ impl Event {
     {
         let code = self.code;
         let row = row_of(code % 8);
+        // `as` on the message: the value keeps its name in the proof of a sum that is long already
         let begun = Begun {
             own: Record {
                 word: (own.word & (0xFFFF_FFFF_FFFF_FFFF - row.off))

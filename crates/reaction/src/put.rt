@@ -108,7 +108,7 @@ fn wait(full: bool, step: Counted) -> Reaction
     forward(mark(step))
 }
 
-// The put or the get is over.
+// The put or the get is over. A neighbour may be reached by then, so that what has begun is no type for it.
 #[tactic(auto, using(crate::proofs::Stages::ends_made))]
 fn ends(outcome: Outcome, r: Reaction) -> Reaction
     requires { Fits r }

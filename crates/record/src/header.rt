@@ -32,7 +32,7 @@ const WANTS_FULL: u64 = 0xFF01_0000;
 const WANTS_EMPTY: u64 = 0xFF_0002_0000;
 
 impl Header {
-    // Internal: the header.
+    // Internal: the header, of an image that is lent whole.
     pub fn of(image: &[u8]) -> Header
         requires { 16 ≤ length image.now }
         ensures { (result.word ≡ number image.now 0 8)
@@ -111,6 +111,7 @@ impl Header {
     }
 
     // Internal: whether the envelope is wanted as it is: the marker of its status is on, or a process is marked for it.
+    // By a clause, and not by the type: `of` answers for every image.
     pub fn is_wanted(self) -> bool
         requires { TidyHeader self }
         ensures { result ≡ rule.wanted (shown_envelope self) }

@@ -36,8 +36,8 @@ pub const LINK: u64 = 0x40_0000;
 pub const NOTE: u64 = 0x1_0000_0000;
 
 impl Record {
-    // Internal: the record of process i. Reading and writing are no trait that the header has too: that has one place,
-    // and to name an offset in both would ask for more.
+    // Internal: the record of process i of an image that is lent whole. Reading and writing are no trait that the
+    // header has too: that has one place, and to name an offset in both would ask for more.
     pub fn at(image: &[u8], i: usize) -> Record
         requires { (i < 64) × (24 + 8 * i ≤ length image.now) }
         ensures { result.word ≡ number image.now (record_at i) 8 }

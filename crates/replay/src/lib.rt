@@ -44,8 +44,9 @@ impl Values for Played {
 // How many events a block has, but the last.
 const EVENTS: usize = 63;
 
-// Internal: the first `events` events of the tape, one after the other; a run asks for all. The ledger gets their
-// records where it has room for all. Block by block: its events, 63 or what is left, stand behind its head of 8 bytes.
+// Internal: the first `events` events of the tape, one after the other; a run asks for all, and breaks its promise
+// where it asks for fewer, which must-fail edits of it do. The ledger gets their records where it has room for all.
+// Block by block: its events, 63 or what is left, stand behind its head of 8 bytes.
 pub fn replay(image: &mut [u8], tape: &[u8], events: usize, ledger: &mut [u8]) -> Played
     requires { Playable image.old tape.now events }
     ensures answer { Tells (state_in image.old) (first_events tape.now events) result }

@@ -94,7 +94,7 @@ const ARRIVING_AND_EMPTY: u64 = 0x20_0200;
 const OWN: u64 = 0xFFFF_FFFF_FFFF_FEF8;
 
 impl Walk {
-    // The walk with record i before those seen.
+    // The walk with record i before those seen. The status is 0 or 1, since an entry of the masks is 16 times it.
     fn on(self, status: u64, i: usize, word: u64) -> Walk
         requires { (status < 2) × (self.flags < 2 ^ 63) × (self.full < 2 ^ 63) × (self.empty < 2 ^ 63) }
         ensures { result ≡ walked_on self status i word }

@@ -77,6 +77,7 @@ pub fn turns(image: &mut [u8], events: &[u8], first: usize, ledger: &mut [u8], f
     ensures answer { Tallied (state_in image.old) (events_in events.now) result }
     ensures buffers { Ran first from image.old ledger.old (events_in events.now) image.new ledger.new }
 {
+    // by the outcome's number, which is the part that it counts in: a match would say so in six arms
     let mut counts: u64 = 0;
     let mut place = from;
     let (slots, _) = events.as_chunks::<8>();

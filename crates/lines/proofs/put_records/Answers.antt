@@ -4,7 +4,7 @@ use mathlib.Core.List.{[], ◌∷◌}
 use native.Mathlib.Omega.{arith}
 use lib.ListN.{length, length-append}
 use Rattle.std.specs.Slice.Iter.{chunks_exact_rest, chunks_exact_size}
-use Rattle.lines.proofs.Lines.{lines_none, one_more, left_then, lines_then}
+use Rattle.lines.proofs.Lines.{lines_none, left_then, lines_then}
 use Rattle.lines.proofs.put_records.Goals as goal
 
 pub loop-entry-init : goal.loop-entry-init
@@ -16,14 +16,6 @@ loop-entry-init c = record {
   lines = lines_none c.args.page.now c.args.ledger.now (omega arith);
   short = omega arith;
 }
-
-pub put_record-requires : goal.put_record-requires
-put_record-requires c =
-    let step = c.in-Some.ensures.steps in
-    let long = step.1.1 ∙ c.loop-entry.invariant.size in
-    let left = sym c.loop-entry.invariant.rest ∙ step.1.0 in
-    let more = one_more c.args.ledger.now (length c.loop-entry.yielded) c.in-Some.entry.now _ long left in
-    (omega (arith, more, c.loop-entry.invariant.lines.long), long)
 
 pub loop-entry-preserved : goal.loop-entry-preserved
 loop-entry-preserved c =

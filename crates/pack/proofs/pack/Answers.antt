@@ -1,5 +1,4 @@
 -- After b blocks the start of the tape is the first b blocks of the list's tape.
-use mathlib.Core.Path.{◌≡◌}
 use native.Mathlib.Omega.{arith}
 use Rattle.machine.specs.Tape.{block_for}
 use Rattle.pack.proofs.Packed.{block_made}
@@ -13,8 +12,3 @@ pub loop-b-preserved : goal.loop-b-preserved
 loop-b-preserved c =
     packed_more c.args.list.now c.args.tape.now c.loop-b.b c.loop-b.invariant
     (block_made c.args.list.now c.loop-b.b _ (omega arith) c.pack_block.ensures c.loop-b.tape _ (omega arith))
-
-pub returns : goal.returns
-returns c =
-    let all : c.loop-b.b ≡ c.args.blocks = omega arith in
-    rw (← all) c.loop-b.invariant

@@ -32,9 +32,3 @@ loop-block-preserved c =
           taken_more tape c.args.list.now c.args.total j {used = width} (omega arith) (omega arith) (omega arith)
           c.loop-block.invariant.taken (put ∙ ap (splice c.loop-block.list (504 * j)) events);
     }
-
-pub returns : goal.returns
-returns c =
-    let count = length-take {A = List ℕ} c.args.blocks c.as_chunks.result.0.now in
-    let all : c.loop-block.block-index ≡ c.args.blocks = omega (arith, c.as_chunks.ensures.front_len) in
-    rw (← all) c.loop-block.invariant.taken

@@ -3,9 +3,6 @@ use native.Mathlib.Omega.{arith}
 use Rattle.text.proofs.Laws.{puts_then}
 use Rattle.text.proofs.Page.field.Goals as goal
 
-pub put-requires : goal.put-requires
-put-requires g c = omega (arith, c.put_on.ensures.piece.ends)
-
 pub returns : goal.returns
 returns g c = record {
   text = puts_then c.put_on.ensures c.put.ensures;
