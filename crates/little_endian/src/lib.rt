@@ -13,12 +13,13 @@ pub trait Word: Copy {
     // The number that it is.
     ghost value: { Self → ℕ };
 
-    // The number that stands at a place. Of a slice of its own width a caller would have to prove the cut each time.
+    // Internal: the number that stands at a place. Of a slice of its own width a caller would have to prove the cut
+    // each time.
     fn read_at(bytes: &[u8], at: usize) -> Self
         requires { at + width ≤ length bytes.now }
         ensures { value result ≡ number bytes.now at width };
 
-    // This number, written at a place.
+    // Internal: this number, written at a place.
     fn write_at(self, bytes: &mut [u8], at: usize)
         requires { at + width ≤ length bytes.old }
         ensures { bytes.new ≡ splice bytes.old at (bytes_of width (value self)) };

@@ -9,7 +9,7 @@ ghost use Rattle.pack.specs.Pack.{width_in, taken_from};
 
 use checksum::check_of;
 use little_endian::Word;
-use span::{clear, put};
+use span::{clear, copy};
 
 // Internal: how many blocks so many events take.
 pub fn blocks_for(events: usize) -> usize
@@ -46,7 +46,7 @@ fn pack_block(events: &[u8], number: usize, block: &mut [u8])
     requires { (length events.now ≤ 504) × (number < 65536) × (length block.old ≡ 512) }
     ensures { block.new ≡ block_bytes number (length events.now / 8) (padded events.now) }
 {
-    put(block, 8, events);
+    copy(block, 8, events);
     seal_block(block, number, events.len());
 }
 
@@ -78,7 +78,7 @@ pub fn unpack(tape: &[u8], blocks: usize, list: &mut [u8], total: usize)
     let mut at = 0;
     for block in &whole[..blocks] {
         let used = (total - at).min(504);
-        put(list, at, &block[8..8 + used]);
+        copy(list, at, &block[8..8 + used]);
         at += used;
     }
 }

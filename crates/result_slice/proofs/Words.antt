@@ -2,9 +2,10 @@
 -- up to ten values are told as ten words.
 use Prim.Native.Nat.{ℕ, zero, suc, ◌+◌, ◌-◌, ◌*◌, ◌≤◌, ◌<◌}
 use mathlib.Core.Path.{◌≡◌, refl, sym, ap, ◌∙◌}
-use mathlib.Core.List.{List, [], ◌∷◌, ◌++◌, append_assoc}
+use mathlib.Core.List.{List, [], ◌∷◌, ◌++◌, append_assoc, append-nil}
 use native.Mathlib.Omega.{arith}
 use lib.ListN.{length, get_or, replicate, length-append, replicate-append-replicate}
+use lib.Seq.{drop-nil}
 use Rattle.std.specs.List.{flat_map}
 use Rattle.std.specs.Array.{IsMapOf}
 use Rattle.std.specs.Fn.{Mut, Called}
@@ -70,12 +71,20 @@ values_in_ten values few =
     let rest : 80 - length (words_of values) ≡ 8 * (10 - length values) = omega (arith, length_words values) in
     rw (rest, words_append values (replicate (10 - length values) 0), words_of_zero (10 - length values))
 
--- the same of ten words that hold them
-pub values_told : (values : List ℕ) {words : List ℕ} → InTen values words → words_of words ≡ result_bytes values
-values_told values ten = rw ten.1 (values_in_ten values ten.0)
-
--- and where they are written over a longer slice
+-- and where they are written over a slice
 pub told_in_ten : (result values : List ℕ) {t : List ℕ} → length values ≤ 10
     → t ≡ splice result 0 (words_of (values ++ replicate (10 - length values) 0))
     → t ≡ splice result 0 (result_bytes values)
-told_in_ten result values few wrote = wrote ∙ ap (splice result 0) (values_in_ten values few)
+told_in_ten result values few wrote = wrote ∙ ap (splice result 0) (values_in_ten values (omega arith))
+
+-- what is written where nothing stood is all
+alone : (bs : List ℕ) → splice [] 0 bs ≡ bs
+unfolding splice
+alone bs = rw (drop-nil {A = ℕ} (0 + length bs)) (append-nil bs)
+
+-- the same of ten words that hold them, which are all of a slice's first 80 bytes
+pub values_told : (values : List ℕ) {words : List ℕ} → InTen values words → words_of words ≡ result_bytes values
+values_told values {words} ten =
+    sym (alone (words_of words))
+    ∙ told_in_ten [] values (omega (arith, ten.0)) (ap (λ (ws : List ℕ). splice [] 0 (words_of ws)) ten.1)
+    ∙ alone (result_bytes values)

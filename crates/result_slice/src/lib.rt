@@ -3,6 +3,7 @@
 #![tactic(auto)]
 
 ghost use Rattle.std.specs.Prelude.{◌≡◌, length};
+ghost use Rattle.machine.specs.Bytes.{bytes};
 ghost use Rattle.machine.specs.Refusals.{number_of};
 ghost use Rattle.machine.specs.Answers.{in_numbers};
 ghost use Rattle.machine.specs.Host.{words_of, result_bytes};
@@ -16,11 +17,18 @@ use numbers::{Values, refusal_of};
 // image at once; so they share `reply` and `short`.
 pub const ROOM: usize = 80;
 
+// A word's eight bytes, the lowest first.
+fn eight(word: u64) -> [u8; 8]
+    ensures { result ≡ bytes 8 word }
+{
+    word.to_le_bytes()
+}
+
 // Internal: ten words, the lowest byte of each first, are what the 80 bytes hold.
 pub fn tell(res: &mut [u8; ROOM], words: &[u64; 10])
     ensures { res.new ≡ words_of words.now }
 {
-    res.copy_from_slice(words.map(u64::to_le_bytes).as_flattened());
+    res.copy_from_slice(words.map(eight).as_flattened());
 }
 
 // Internal: a call's answer told: what it is done with, and 0 returned; or the refusal's place, and its number

@@ -175,7 +175,7 @@ walk_none s status i =
     }
 
 -- as code has it: the status as a digit, and so many records up to n
-walk_step : (s : List ℕ) → Bytes s → (digit n i : ℕ) {w w' : Walk} {word : ℕ} → digit < 2 → i < n
+pub walk_step : (s : List ℕ) → Bytes s → (digit n i : ℕ) {w w' : Walk} {word : ℕ} → digit < 2 → i < n
     → Walked s (eqb digit 1) (i + 1) (n - (i + 1)) w → word ≡ number s (16 + 8 * i) 8 → w' ≡ walked_on w digit i word
     → Walked s (eqb digit 1) i (n - i) w'
 walk_step s small digit n i {w} {w'} {word} two below so read next =

@@ -5,13 +5,14 @@ use mathlib.Core.List.{List, [], ◌∷◌, ◌++◌, append_assoc}
 use mathlib.Core.Bool.{Bool, ◌&&◌, and-true, and_assoc}
 use native.Mathlib.Omega.{arith}
 use borrow.Rule.Slice.PartMut.{put_mid}
-use lib.ListN.{length, set, take, drop}
-use lib.Seq.{sets-eq, drop-drop}
+use lib.ListN.{length, get_or, set, take, drop, length-drop}
+use lib.Seq.{sets-eq, drop-drop, length-take-le}
 use Rattle.std.specs.List.{fold}
 use lib.Bits.{bit_or}
 use lib.Dec.{eqb}
 use Rattle.machine.specs.Bytes.{part, all_zero, zeros, splice}
 use Rattle.machine.proofs.Laws.Bytes.{length_splice, splice_next}
+use Rattle.machine.proofs.Image.Rewrite.{part_add, part_more}
 use Rattle.machine.proofs.Laws.Ored.{or_none}
 
 -- ---- written
@@ -34,6 +35,15 @@ pub splice_one : (s : List ℕ) (at : ℕ) (bs : List ℕ) (x : ℕ) → at + le
 splice_one s at bs x h =
     store_splice (splice s at bs) (at + length bs) x (rw (length_splice s at bs (omega arith)) h)
     ∙ splice_next s at bs (x ∷ []) (omega arith)
+
+-- one byte more of another buffer
+pub copy_more : (s : List ℕ) (at i : ℕ) → at + i < length s → (f : List ℕ) (k x : ℕ) → k + i < length f
+    → x ≡ get_or f (k + i) 0
+    → set (splice s at (part f k i)) (at + i) x ≡ splice s at (part f k (i + 1))
+copy_more s at i h f k x g is =
+    let long : length (part f k i) ≡ i = rw (length-take-le i (drop k f) (rw (length-drop k f) (omega arith))) in
+    let here : at + i ≡ at + length (part f k i) = omega arith in
+    rw (here, splice_one s at (part f k i) x (omega arith), is, part_add f k i 1, part_more f (k + i) 0 g)
 
 -- ---- tested
 

@@ -1,4 +1,4 @@
-// Stretches of bytes: cleared, written, tested for zeros.
+// Stretches of bytes: cleared, written, copied, tested for zeros.
 #![tactic(auto)]
 
 ghost use Rattle.std.specs.Prelude.{◌≡◌, ◌+◌, ◌≤◌, length, replicate, bit_or};
@@ -20,6 +20,17 @@ pub fn put(bytes: &mut [u8], at: usize, piece: &[u8])
     ensures { bytes.new ≡ splice bytes.old at piece.now }
 {
     bytes[at..at + piece.len()].copy_from_slice(piece);
+}
+
+// Internal: the same of a piece of any length, byte by byte. There the library's copy is a call of memmove, and what
+// links libring_tools.a needs no more for it than memset.
+pub fn copy(bytes: &mut [u8], at: usize, piece: &[u8])
+    requires { at + length piece.now ≤ length bytes.old }
+    ensures { bytes.new ≡ splice bytes.old at piece.now }
+{
+    for (i, byte) in piece.iter().enumerate() {
+        bytes[at + i] = *byte;
+    }
 }
 
 // The bytes, or-ed.

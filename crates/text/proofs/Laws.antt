@@ -3,8 +3,7 @@ use Prim.Native.Nat.{ℕ, ◌+◌, ◌-◌, ◌%◌, ◌≤◌, ◌<◌, ◌^◌
 use mathlib.Core.Path.{◌≡◌, ap, subst, sym, ◌∙◌}
 use mathlib.Core.List.{List, [], ◌∷◌, ◌++◌}
 use native.Mathlib.Omega.{arith}
-use lib.ListN.{length, length-append}
-use borrow.Rule.Slice.PartMut.{put_mid, Post-is}
+use lib.ListN.{length, take, length-append, length-take}
 use Rattle.std.specs.Fmt as std
 use Rattle.std.proofs.lemmas.Fmt.{decimal_by_steps}
 use Rattle.machine.specs.Bytes.{splice}
@@ -44,15 +43,7 @@ module _ {s t : List ℕ} {at end : ℕ} {a : List ℕ} (first : Piece s at a t 
 
 -- ---- put on a page
 
--- a text copied over the bytes from the page's end on
-pub puts_copied : (before : Page) (text copied : List ℕ) → copied ≡ text
-    → put_mid before.end (before.end + length text - before.end) before.bytes.now copied
-    ≡ splice before.bytes.now before.end text
-unfolding splice
-puts_copied before text copied is =
-    rw (is, Post-is before.end (before.end + length text) before.bytes.now (omega arith))
-
--- that is what the page is then
+-- a text written over the bytes from the page's end on is what the page is then
 pub puts_written : {before after : Page} (text : List ℕ) → before.end + length text ≤ length before.bytes.now
     → after.bytes.ghost_name ≡ before.bytes.ghost_name
     → after.bytes.now ≡ splice before.bytes.now before.end text
@@ -84,3 +75,7 @@ decimal_printed n h =
     sym
     (decimal_by_steps (λ (n : ℕ) (ds : List ℕ). decimal n ≡ ds) (λ n one. decimal_one n one)
     (λ n ds ten tenth. decimal_more n ten ∙ ap (λ (l : List ℕ). l ++ ((48 + n % 10) ∷ [])) tenth) n h)
+
+-- a first part no longer than what there is room for
+pub first_fits : (end most len w : ℕ) (l : List ℕ) → w ≤ len → end + len ≤ most → end + length (take w l) ≤ most
+first_fits end most len w l short room = omega (arith, length-take w l)

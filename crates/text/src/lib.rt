@@ -9,7 +9,8 @@ ghost use Rattle.std.specs.Prelude.{◌≡◌, ℕ, List, [], ◌∷◌, ◌++�
 ghost use Rattle.machine.specs.Text.{decimal};
 ghost use Rattle.text.specs.Puts.{HasRoom, Puts};
 
-use itoa::Buffer;
+use itoa::write_digits;
+use span::copy;
 
 // Internal: a page: lent bytes, and the place where the text goes on.
 #[derive(Drop)]
@@ -35,7 +36,7 @@ impl<'a> Page<'a> {
     {
         let end = self.end + text.len();
         let bytes = &mut *self.bytes;
-        bytes[self.end..end].copy_from_slice(text);
+        copy(bytes, self.end, text);
         self.end = end;
     }
 
@@ -66,8 +67,9 @@ impl Field for u64 {
     ghost spelled = { decimal };
 
     fn put_on(self, page: &mut Page<'_>) {
-        let mut digits = Buffer::new();
-        page.put(digits.format(self).as_bytes());
+        let mut digits = [b'0'; 20];
+        let start = write_digits(self, &mut digits, 20);
+        page.put(&digits[start..]);
     }
 }
 

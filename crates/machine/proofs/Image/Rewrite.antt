@@ -26,7 +26,7 @@ use Rattle.machine.proofs.Image.Readback.{InRange}
 
 -- ---- parts of a buffer
 
-part_more : (s : List ℕ) (at width : ℕ) → at < length s
+pub part_more : (s : List ℕ) (at width : ℕ) → at < length s
     → part s at (suc width) ≡ get_or s at 0 ∷ part s (at + 1) width
 part_more s at width h = rw (add-one at, drop-cons s at 0 h)
 

@@ -5,4 +5,4 @@ use Rattle.pack.proofs.pack_block.Goals as goal
 
 pub returns : goal.returns
 returns c =
-    block_filled c.args.block.now c.args.events.now c.args.number (omega arith) c.put.ensures c.seal_block.ensures
+    block_filled c.args.block.now c.args.events.now c.args.number (omega arith) c.copy.ensures c.seal_block.ensures

@@ -25,10 +25,10 @@ loop-block-preserved c =
     let used : c.min-used.result ≡ width = omega arith in
     let events =
     block_at tape c.args.blocks _ j width below (omega arith) (omega arith) c.as_chunks.ensures.front in
-    let put = rw full at c.put.ensures in
+    let copied = rw full at c.copy.ensures in
     record {
       at = omega arith;
       taken =
           taken_more tape c.args.list.now c.args.total j {used = width} (omega arith) (omega arith) (omega arith)
-          c.loop-block.invariant.taken (put ∙ ap (splice c.loop-block.list (504 * j)) events);
+          c.loop-block.invariant.taken (copied ∙ ap (splice c.loop-block.list (504 * j)) events);
     }
