@@ -4,8 +4,8 @@ use Prim.Native.Nat.{ℕ, zero, suc, ◌+◌, ◌-◌, ◌*◌, ◌≤◌, ◌<�
 use mathlib.Core.Path.{◌≡◌, refl, sym, ap, ◌∙◌}
 use mathlib.Core.List.{List, [], ◌∷◌, ◌++◌, append_assoc, append-nil}
 use native.Mathlib.Omega.{arith}
-use lib.ListN.{length, get_or, replicate, length-append, replicate-append-replicate}
-use lib.Seq.{drop-nil}
+use lib.ListN.{length, get_or, replicate, length-append, length-replicate, replicate-append-replicate}
+use lib.ListN.{drop_of_length-le}
 use Rattle.std.specs.List.{flat_map}
 use Rattle.std.specs.Array.{IsMapOf}
 use Rattle.std.specs.Fn.{Mut, Called}
@@ -71,20 +71,30 @@ values_in_ten values few =
     let rest : 80 - length (words_of values) ≡ 8 * (10 - length values) = omega (arith, length_words values) in
     rw (rest, words_append values (replicate (10 - length values) 0), words_of_zero (10 - length values))
 
+-- the same of ten words that hold them
+pub values_told : (values : List ℕ) {words : List ℕ} → InTen values words → words_of words ≡ result_bytes values
+values_told values ten = rw ten.1 (values_in_ten values ten.0)
+
 -- and where they are written over a slice
 pub told_in_ten : (result values : List ℕ) {t : List ℕ} → length values ≤ 10
     → t ≡ splice result 0 (words_of (values ++ replicate (10 - length values) 0))
     → t ≡ splice result 0 (result_bytes values)
 told_in_ten result values few wrote = wrote ∙ ap (splice result 0) (values_in_ten values (omega arith))
 
--- what is written where nothing stood is all
-alone : (bs : List ℕ) → splice [] 0 bs ≡ bs
+-- which has 80 bytes, so that they are all of it
+pub told_in_array : (result values : List ℕ) {words t : List ℕ} → length result ≡ 80 → InTen values words
+    → t ≡ splice result 0 (words_of words)
+    → t ≡ result_bytes values
 unfolding splice
-alone bs = rw (drop-nil {A = ℕ} (0 + length bs)) (append-nil bs)
-
--- the same of ten words that hold them, which are all of a slice's first 80 bytes
-pub values_told : (values : List ℕ) {words : List ℕ} → InTen values words → words_of words ≡ result_bytes values
-values_told values {words} ten =
-    sym (alone (words_of words))
-    ∙ told_in_ten [] values (omega (arith, ten.0)) (ap (λ (ws : List ℕ). splice [] 0 (words_of ws)) ten.1)
-    ∙ alone (result_bytes values)
+told_in_array result values {words} {t} long ten wrote =
+    let over : t ≡ splice result 0 (result_bytes values) =
+    told_in_ten result values (omega (arith, ten.0))
+    (wrote ∙ ap (λ (ws : List ℕ). splice result 0 (words_of ws)) ten.1) in
+    let rest = length-append values (replicate (10 - length values) 0) in
+    let zeros : length (replicate {A = ℕ} (10 - length values) 0) ≡ 10 - length values =
+    length-replicate {A = ℕ} (10 - length values) 0 in
+    let ten_words : length words ≡ 10 = ap length ten.1 ∙ omega (arith, rest, zeros, ten.0) in
+    let all : length (result_bytes values) ≡ length result =
+    ap length (sym (values_told values ten)) ∙ length_words words ∙ omega (arith, ten_words, long) in
+    over ∙ rw (drop_of_length-le result {i = 0 + length (result_bytes values)} (omega (arith, all)))
+    (append-nil (result_bytes values))

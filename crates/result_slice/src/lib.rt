@@ -2,8 +2,8 @@
 // suite's host.
 #![tactic(auto)]
 
-ghost use Rattle.std.specs.Prelude.{◌≡◌, length};
-ghost use Rattle.machine.specs.Bytes.{bytes};
+ghost use Rattle.std.specs.Prelude.{◌≡◌, ◌≤◌, length};
+ghost use Rattle.machine.specs.Bytes.{bytes, splice};
 ghost use Rattle.machine.specs.Refusals.{number_of};
 ghost use Rattle.machine.specs.Answers.{in_numbers};
 ghost use Rattle.machine.specs.Host.{words_of, result_bytes};
@@ -11,6 +11,7 @@ ghost use Rattle.numbers.specs.Verdicts.{refusal_of};
 
 use machine::{Answer, Verdict};
 use numbers::{Values, refusal_of};
+use span::put;
 
 // A result slice has at least so many bytes: a call lends an array of the first of them, so that their number is the
 // type's. One function for all the calls would take two closures, the tests' and the call's, and both would borrow the
@@ -24,11 +25,12 @@ fn eight(word: u64) -> [u8; 8]
     word.to_le_bytes()
 }
 
-// Internal: ten words, the lowest byte of each first, are what the 80 bytes hold.
-pub fn tell(res: &mut [u8; ROOM], words: &[u64; 10])
-    ensures { res.new ≡ words_of words.now }
+// Internal: ten words, the lowest byte of each first, written over the first 80 bytes.
+pub fn tell(res: &mut [u8], words: &[u64; 10])
+    requires { 80 ≤ length res.old }
+    ensures { res.new ≡ splice res.old 0 (words_of words.now) }
 {
-    res.copy_from_slice(words.map(eight).as_flattened());
+    put(res, 0, words.map(eight).as_flattened());
 }
 
 // Internal: a call's answer told: what it is done with, and 0 returned; or the refusal's place, and its number
