@@ -2,14 +2,15 @@
 use Prim.Native.Nat.{ℕ, ◌+◌, ◌-◌, ◌%◌, ◌≤◌, ◌<◌, ◌^◌}
 use mathlib.Core.Path.{◌≡◌, ap, subst, sym, ◌∙◌}
 use mathlib.Core.List.{List, [], ◌∷◌, ◌++◌}
+use mathlib.Core.Logic.{◌⊎◌, inl, inr}
 use native.Mathlib.Omega.{arith}
 use lib.ListN.{length, take, length-append, length-take}
 use Rattle.std.specs.Fmt as std
 use Rattle.std.proofs.lemmas.Fmt.{decimal_by_steps}
 use Rattle.machine.specs.Bytes.{splice}
 use Rattle.machine.specs.Text.{decimal}
-use Rattle.machine.proofs.Laws.Bytes.{length_splice, splice_next}
-use Rattle.machine.proofs.Text.{decimal_one, decimal_more}
+use Rattle.machine.proofs.Laws.Bytes.{length_splice, splice_next, lt_or_ge}
+use Rattle.machine.proofs.Text.{decimal_one, decimal_more, length_one, length_more}
 use Rattle.machine.proofs.Laws.Splices.{splice_none}
 use Rattle.text.specs.declared.Page.{Page}
 use Rattle.text.specs.Piece.{Piece}
@@ -75,6 +76,14 @@ decimal_printed n h =
     sym
     (decimal_by_steps (λ (n : ℕ) (ds : List ℕ). decimal n ≡ ds) (λ n one. decimal_one n one)
     (λ n ds ten tenth. decimal_more n ten ∙ ap (λ (l : List ℕ). l ++ ((48 + n % 10) ∷ [])) tenth) n h)
+
+-- there is one digit or more
+pub decimal_some : (n : ℕ) → 1 ≤ length (decimal n)
+decimal_some n = go (lt_or_ge n 10)
+  where
+    go : (n < 10) ⊎ (10 ≤ n) → 1 ≤ length (decimal n)
+    go (inl one) = omega (arith, length_one n one)
+    go (inr ten) = omega (arith, length_more n ten)
 
 -- a first part no longer than what there is room for
 pub first_fits : (end most len w : ℕ) (l : List ℕ) → w ≤ len → end + len ≤ most → end + length (take w l) ≤ most

@@ -7,7 +7,7 @@ use lib.Seq.{take-append_seam}
 use Rattle.std.specs.Fmt as std
 use Rattle.machine.specs.Text.{decimal}
 use Rattle.machine.proofs.Text.{decimal_64}
-use Rattle.text.proofs.Laws.{puts_is, decimal_printed, first_fits}
+use Rattle.text.proofs.Laws.{puts_is, decimal_printed, decimal_some, first_fits}
 use Rattle.text.proofs.U64Field.put_on.Goals as goal
 
 pub write_digits-start-requires : goal.write_digits-start-requires
@@ -20,7 +20,8 @@ write_digits-start-requires c =
 pub put-requires : goal.put-requires
 put-requires c =
     let same = ap length (decimal_printed c.args.self (omega arith)) in
-    first_fits _ _ (length (decimal c.args.self)) _ _ (omega (arith, same, c.write_digits-start.ensures.start))
+    let some = decimal_some c.args.self in
+    first_fits _ _ (length (decimal c.args.self)) _ _ (omega (arith, same, some, c.write_digits-start.ensures.start))
     c.requires
 
 pub returns : goal.returns
