@@ -18,7 +18,7 @@ use span::put;
 // image at once; so they share `reply` and `short`.
 pub const ROOM: usize = 80;
 
-// A word's eight bytes, the lowest first.
+// A word's eight bytes, the lowest first. With a clause of its own, so that a wrong word is refused here, by its value.
 fn eight(word: u64) -> [u8; 8]
     ensures { result ≡ bytes 8 word }
 {

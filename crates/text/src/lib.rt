@@ -62,7 +62,7 @@ pub trait Field {
         ensures { Puts page.old (spelled self) page.new };
 }
 
-// A number in decimal, without leading zeros.
+// A number in decimal, without leading zeros; in 64 bits it has at most 20 digits.
 impl Field for u64 {
     ghost spelled = { decimal };
 
